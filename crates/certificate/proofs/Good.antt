@@ -1,0 +1,105 @@
+-- A body that was read is within document 01's limits. Assumes nothing.
+use Prim.Native.Nat.{ℕ, _+_, _-_}
+use mathlib.Core.Path.{_≡_, refl, sym, ap, _∙_}
+use mathlib.Core.Bool.{Bool, true, false, cond, not, _&&_}
+use mathlib.Core.List.{List, [], _∷_}
+use lib.Dec.{eqb}
+use lib.ListN.{length, drop}
+use Rattle.laws.proofs.Bools.{of-both, and-l, and-r, true-false}
+use Rattle.objects.specs.Objects.{part, objectsIn}
+use Rattle.objects.specs.Chain.{answered, taken}
+use Rattle.objects.proofs.Chain.{taken-all, answered-all}
+use Rattle.values.specs.Bytes.{eqbs}
+use Rattle.values.specs.Names.{isName, nameOf, nameFits}
+use Rattle.values.specs.Days.{isDay, dayOf, dayFits, before}
+use Rattle.values.specs.Rights.{isRights, rightsOf, rightsFit}
+use Rattle.values.specs.Points.{pointFits}
+use Rattle.values.specs.declared.name.Name.{Name}
+use Rattle.values.specs.declared.day.Day.{Day}
+use Rattle.values.specs.declared.rights.Rights.{Rights}
+use Rattle.values.proofs.Kept.{name-good, day-good, rights-good}
+use Rattle.certificate.specs.Body.{unread, read, any, ended, placeOf, isLast, isKey, isSignature, Pending, bodyOf, wholeOf, signedOf, signedWhole, versionThen, issuerThen, keyThen, ownThen, rightsThen, firstThen, lastThen, extThen}
+use Rattle.certificate.specs.declared.Place.{Place}
+use Rattle.certificate.specs.declared.Body.{Body}
+use Rattle.certificate.specs.declared.Reading.{Reading}
+use Rattle.certificate.specs.declared.Answer.the-variants.{Read}
+
+pub record Good (b : Body) : Type 0 where
+  pub issuer : nameFits (b .issuer) ≡ true
+  pub point : pointFits (b .point) ≡ true
+
+abbrev pub ReadGood : Reading → Type 0
+ReadGood r = r .answer ≡ Read → Good (r .body)
+
+never : ReadGood unread
+unfolding unread
+never e = true-false (cc)
+
+module _ (stop : ℕ) where
+  module _ (issuer : Name) (key : Place) (own : Name) (rights : Rights) (i : nameFits issuer ≡ true) (o : nameFits own ≡ true) (r : rightsFit rights ≡ true) where
+    ext-good : (first last : Day) → dayFits first ≡ true → dayFits last ≡ true → not (before last first) ≡ true → (s : List ℕ) (n : ℕ)
+        → ReadGood (extThen stop issuer key own rights first last s n)
+    unfolding extThen pointFits
+    ext-good first last f l q s n =
+        of-both (λ (p : Pending). ReadGood (p n)) (eqb (length s) 0) good
+        (taken-all unread ReadGood never 0x65 true any s (λ c e r. ended r (read issuer key own rights first last (placeOf stop s e)))
+        (λ a e h m. of-both (λ (p : Pending). ReadGood (p m)) (eqb (length (drop e s)) 0) good never) n)
+      where
+        good : {x : Place} {m : ℕ} → ReadGood (read issuer key own rights first last x m)
+        good h = record { issuer = i; point = rw (o, r, f, l, q) }
+
+    last-good : (first : Day) → dayFits first ≡ true → (s : List ℕ) (n : ℕ) → ReadGood (lastThen stop issuer key own rights first s n)
+    unfolding lastThen
+    last-good first f s n =
+        taken-all unread ReadGood never 0x5F24 false (isLast first) s (λ c e. extThen stop issuer key own rights first (record { 0 = dayOf c }))
+        (λ a e h. ext-good first (record { 0 = dayOf (part a e s) }) f (day-good (part a e s) (and-l (isDay (part a e s)) _ h)) (and-r (isDay (part a e s)) _ h) (drop e s)) n
+
+    first-good : (s : List ℕ) (n : ℕ) → ReadGood (firstThen stop issuer key own rights s n)
+    unfolding firstThen
+    first-good s n =
+        taken-all unread ReadGood never 0x5F25 false isDay s (λ c e. lastThen stop issuer key own rights (record { 0 = dayOf c }))
+        (λ a e h. last-good (record { 0 = dayOf (part a e s) }) (day-good (part a e s) h) (drop e s)) n
+
+  rights-then-good : (issuer : Name) (key : Place) (own : Name) → nameFits issuer ≡ true → nameFits own ≡ true → (s : List ℕ) (n : ℕ) → ReadGood (rightsThen stop issuer key own s n)
+  unfolding rightsThen
+  rights-then-good issuer key own i o s n =
+      taken-all unread ReadGood never 0x7F4C true isRights s (λ c e. firstThen stop issuer key own (record { 0 = rightsOf c }))
+      (λ a e h. first-good issuer key own (record { 0 = rightsOf (part a e s) }) i o (rights-good (part a e s)) (drop e s)) n
+
+  own-good : (issuer : Name) (key : Place) → nameFits issuer ≡ true → (s : List ℕ) (n : ℕ) → ReadGood (ownThen stop issuer key s n)
+  unfolding ownThen
+  own-good issuer key i s n =
+      taken-all unread ReadGood never 0x5F20 false isName s (λ c e. rightsThen stop issuer key (nameOf c))
+      (λ a e h. rights-then-good issuer key (nameOf (part a e s)) i (name-good (part a e s) h) (drop e s)) n
+
+  key-good : (issuer : Name) → nameFits issuer ≡ true → (s : List ℕ) (n : ℕ) → ReadGood (keyThen stop issuer s n)
+  unfolding keyThen
+  key-good issuer i s n =
+      taken-all unread ReadGood never 0x7F49 true isKey s (λ c e. ownThen stop issuer (placeOf stop s e)) (λ a e h. own-good issuer (placeOf stop s e) i (drop e s)) n
+
+  issuer-good : (s : List ℕ) (n : ℕ) → ReadGood (issuerThen stop s n)
+  unfolding issuerThen
+  issuer-good s n =
+      taken-all unread ReadGood never 0x42 false isName s (λ c e. keyThen stop (nameOf c)) (λ a e h. key-good (nameOf (part a e s)) (name-good (part a e s) h) (drop e s)) n
+
+  version-good : (s : List ℕ) (n : ℕ) → ReadGood (versionThen stop s n)
+  unfolding versionThen
+  version-good s n = taken-all unread ReadGood never 0x5F29 false (λ c. eqbs c (0 ∷ [])) s (λ c e. issuerThen stop) (λ a e h. issuer-good (drop e s)) n
+
+ended-good : (stop : ℕ) (c r : List ℕ) (n : ℕ) → ReadGood (ended r (versionThen stop c) n)
+ended-good stop c r n = of-both (λ (p : Pending). ReadGood (p n)) (eqb (length r) 0) (version-good stop c n) never
+
+-- what was read is good, alone and with its signature
+pub body-good : (s : List ℕ) → ReadGood (bodyOf s)
+unfolding bodyOf wholeOf
+body-good s =
+    answered-all unread ReadGood never (objectsIn s) (wholeOf s)
+    (taken-all unread ReadGood never 0x7F4E true any s (λ c e r. ended r (versionThen e c)) (λ a e h. ended-good e (part a e s) (drop e s)))
+
+pub signed-good : (s : List ℕ) → ReadGood (signedOf s)
+unfolding signedOf signedWhole
+signed-good s =
+    answered-all unread ReadGood never (objectsIn s) (signedWhole s)
+    (taken-all unread ReadGood never 0x7F4E true any s (λ c e r. taken unread 0x5F37 false isSignature r (λ g f q. ended q (versionThen e c)))
+    (λ a e h. taken-all unread ReadGood never 0x5F37 false isSignature (drop e s) (λ g f q. ended q (versionThen e (part a e s)))
+    (λ b f k. ended-good e (part a e s) (drop f (drop e s)))))

@@ -1,0 +1,5 @@
+pub mod Contents
+pub mod Links
+pub mod Good
+pub mod Examples
+pub mod Pinned

@@ -1,0 +1,13 @@
+-- `event::course::Plan::awaits` meets its contract. Assumes nothing.
+use borrow.Author.Needs.{needs}
+use Rattle.event.proofs.Small.{small}
+use Rattle.event.proofs.course.Plan.awaits.Statement.{statement}
+use Rattle.event.proofs.course.Plan.awaits.Tie as tie
+
+pub awaits-spec : {M : Type 1} → statement M
+awaits-spec =
+    tie.close
+    (tie.spec
+    (λ c κs. search needs)
+    (λ c κs. search needs)
+    (λ c. search small))

@@ -1,0 +1,4 @@
+pub mod Run
+pub mod Event
+pub mod Course
+pub mod Settle

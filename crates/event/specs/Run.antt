@@ -1,0 +1,64 @@
+-- A password run: its choice and its steps. Assumes nothing: these are definitions.
+use Prim.Native.Nat.{ℕ}
+use mathlib.Core.Bool.{Bool, true, false}
+use Rattle.values.specs.declared.rights.Granted.{Granted}
+use Rattle.values.specs.declared.rights.Granted.the-variants.{These, NoRights}
+use Rattle.event.specs.declared.run.Password.{Password}
+use Rattle.event.specs.declared.run.Password.the-variants.{Mrz, Can, Pin, Puk}
+use Rattle.event.specs.declared.run.Choice.{Choice}
+use Rattle.event.specs.declared.run.Choice.the-variants.{Mrz as ChooseMrz, Can as ChooseCan, CanFor, Pin as ChoosePin, PinFor, Puk as ChoosePuk}
+use Rattle.event.specs.declared.run.Step.{Step}
+use Rattle.event.specs.declared.run.Step.the-variants.{Nonce, Map, Agree, Confirm}
+
+abbrev pub isPin : Password → Bool
+isPin Mrz = false
+isPin Can = false
+isPin Pin = true
+isPin Puk = false
+
+abbrev pub isCan : Password → Bool
+isCan Mrz = false
+isCan Can = true
+isCan Pin = false
+isCan Puk = false
+
+abbrev pub isPuk : Password → Bool
+isPuk Mrz = false
+isPuk Can = false
+isPuk Pin = false
+isPuk Puk = true
+
+-- the password of a choice, and the rights that it names
+abbrev pub passwordOf : Choice → Password
+passwordOf ChooseMrz = Mrz
+passwordOf ChooseCan = Can
+passwordOf (CanFor r) = Can
+passwordOf ChoosePin = Pin
+passwordOf (PinFor r) = Pin
+passwordOf ChoosePuk = Puk
+
+abbrev pub rightsNamed : Choice → Granted
+rightsNamed ChooseMrz = NoRights
+rightsNamed ChooseCan = NoRights
+rightsNamed (CanFor r) = These r
+rightsNamed ChoosePin = NoRights
+rightsNamed (PinFor r) = These r
+rightsNamed ChoosePuk = NoRights
+
+abbrev pub stepNumber : Step → ℕ
+stepNumber Nonce = 1
+stepNumber Map = 2
+stepNumber Agree = 3
+stepNumber Confirm = 4
+
+abbrev pub isLast : Step → Bool
+isLast Nonce = false
+isLast Map = false
+isLast Agree = false
+isLast Confirm = true
+
+abbrev pub nextStep : Step → Step
+nextStep Nonce = Map
+nextStep Map = Agree
+nextStep Agree = Confirm
+nextStep Confirm = Confirm

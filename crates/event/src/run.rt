@@ -1,0 +1,127 @@
+// A password run: the choice that opened it, and its step.
+ghost use mathlib.Core.Path.{_≡_};
+ghost use Rattle.event.specs.Run.{passwordOf, rightsNamed, isPin, isCan, isPuk, stepNumber, isLast, nextStep};
+use values::rights::Granted;
+use values::rights::Rights;
+
+pub enum Password {
+    Mrz,
+    Can,
+    Pin,
+    Puk,
+}
+
+// A password, and the rights that it names: only the CAN and the PIN may name any.
+pub enum Choice {
+    Mrz,
+    Can,
+    CanFor(Rights),
+    Pin,
+    PinFor(Rights),
+    Puk,
+}
+
+pub enum Step {
+    Nonce,
+    Map,
+    Agree,
+    Confirm,
+}
+
+impl Password {
+    pub fn is_pin(self) -> bool
+        ensures { λ r. ⌜ r ≡ isPin self ⌝ }
+    {
+        match self {
+            Password::Mrz => false,
+            Password::Can => false,
+            Password::Pin => true,
+            Password::Puk => false,
+        }
+    }
+
+    pub fn is_can(self) -> bool
+        ensures { λ r. ⌜ r ≡ isCan self ⌝ }
+    {
+        match self {
+            Password::Mrz => false,
+            Password::Can => true,
+            Password::Pin => false,
+            Password::Puk => false,
+        }
+    }
+
+    pub fn is_puk(self) -> bool
+        ensures { λ r. ⌜ r ≡ isPuk self ⌝ }
+    {
+        match self {
+            Password::Mrz => false,
+            Password::Can => false,
+            Password::Pin => false,
+            Password::Puk => true,
+        }
+    }
+}
+
+impl Choice {
+    pub fn password(self) -> Password
+        ensures { λ r. ⌜ r ≡ passwordOf self ⌝ }
+    {
+        match self {
+            Choice::Mrz => Password::Mrz,
+            Choice::Can => Password::Can,
+            Choice::CanFor(_) => Password::Can,
+            Choice::Pin => Password::Pin,
+            Choice::PinFor(_) => Password::Pin,
+            Choice::Puk => Password::Puk,
+        }
+    }
+
+    pub fn rights(self) -> Granted
+        ensures { λ r. ⌜ r ≡ rightsNamed self ⌝ }
+    {
+        match self {
+            Choice::Mrz => Granted::NoRights,
+            Choice::Can => Granted::NoRights,
+            Choice::CanFor(r) => Granted::These(r),
+            Choice::Pin => Granted::NoRights,
+            Choice::PinFor(r) => Granted::These(r),
+            Choice::Puk => Granted::NoRights,
+        }
+    }
+}
+
+impl Step {
+    pub fn number(self) -> u8
+        ensures { λ r. ⌜ r ≡ stepNumber self ⌝ }
+    {
+        match self {
+            Step::Nonce => 1,
+            Step::Map => 2,
+            Step::Agree => 3,
+            Step::Confirm => 4,
+        }
+    }
+
+    pub fn is_last(self) -> bool
+        ensures { λ r. ⌜ r ≡ isLast self ⌝ }
+    {
+        match self {
+            Step::Nonce => false,
+            Step::Map => false,
+            Step::Agree => false,
+            Step::Confirm => true,
+        }
+    }
+
+    pub fn next(self) -> Step
+        ensures { λ r. ⌜ r ≡ nextStep self ⌝ }
+    {
+        match self {
+            Step::Nonce => Step::Map,
+            Step::Map => Step::Agree,
+            Step::Agree => Step::Confirm,
+            Step::Confirm => Step::Confirm,
+        }
+    }
+}

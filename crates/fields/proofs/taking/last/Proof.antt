@@ -1,0 +1,15 @@
+-- `fields::taking::last` meets its contract. Assumes nothing.
+use borrow.Author.Needs.{needs}
+use Rattle.fields.proofs.Ways.{takes}
+use Rattle.fields.proofs.taking.last.Statement.{statement}
+use Rattle.fields.proofs.taking.last.Tie as tie
+
+pub last-spec : {M : Type 1} → statement M
+last-spec =
+    tie.close
+    (tie.spec
+    (λ c. search needs)
+    (λ c. search needs)
+    (λ c. search takes)
+    (λ c. search takes)
+    (λ c. search takes))

@@ -1,0 +1,30 @@
+-- What the data of a command give: what is asked, and what goes with it. Assumes nothing: these are definitions.
+use Rattle.values.specs.Names.{noName}
+use Rattle.values.specs.Points.{noPoint}
+use Rattle.values.specs.Keys.{noKey}
+use Rattle.values.specs.declared.name.Name.{Name}
+use Rattle.values.specs.declared.point.Point.{Point}
+use Rattle.values.specs.declared.key.Key.{Key}
+use Rattle.fields.specs.declared.asked.Ask.{Ask}
+use Rattle.fields.specs.declared.asked.Ask.the-variants.{Bad, Select, Verify, Announce}
+use Rattle.fields.specs.declared.given.Given.{Given}
+
+-- with no name, no certificate, no key
+unfoldable pub only : Ask → Given
+only a = record { ask = a; name = noName; point = noPoint; key = noKey }
+
+-- data that are not what the command wants
+abbrev pub bad : Given
+bad = only Bad
+
+-- the issuer's name
+unfoldable pub selecting : Name → Given
+selecting n = record { ask = Select; name = n; point = noPoint; key = noKey }
+
+-- the issuer's name that the certificate states, and the certificate
+unfoldable pub verifying : Name → Point → Given
+verifying n p = record { ask = Verify; name = n; point = p; key = noKey }
+
+-- the terminal's name and its compressed key
+unfoldable pub announcing : Name → Key → Given
+announcing n k = record { ask = Announce; name = n; point = noPoint; key = k }

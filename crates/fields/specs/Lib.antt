@@ -1,0 +1,9 @@
+pub mod Taking
+pub mod Given
+pub mod Choice
+pub mod Held
+pub mod Names
+pub mod Announce
+pub mod Chip
+pub mod Plain
+pub mod Asked

@@ -1,0 +1,12 @@
+-- `order::on` meets its contract. Assumes nothing.
+use borrow.Author.Needs.{needs}
+use Rattle.laws.proofs.Rungs.{rungs}
+use Rattle.order.proofs.on.Statement.{statement}
+use Rattle.order.proofs.on.Tie as tie
+
+pub on-spec : {M : Type 1} → statement M
+on-spec =
+    tie.close
+    (tie.spec
+    (λ c. search rungs depth 7)
+    (λ c. search rungs depth 7))

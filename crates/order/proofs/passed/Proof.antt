@@ -1,0 +1,13 @@
+-- `order::passed` meets its contract. Assumes nothing.
+use borrow.Author.Needs.{needs}
+use Rattle.order.proofs.Ladders.{ladders}
+use Rattle.order.proofs.passed.Statement.{statement}
+use Rattle.order.proofs.passed.Tie as tie
+
+pub passed-spec : {M : Type 1} → statement M
+passed-spec =
+    tie.close
+    (tie.spec
+    (λ c κs. search needs)
+    (λ c. search ladders)
+    (λ c. search ladders))

@@ -1,0 +1,375 @@
+-- What an event tells of the token and the command that it comes from: the one walk down the plan. Assumes nothing.
+use Prim.Native.Nat.{ℕ, _-_}
+use mathlib.Core.Bool.{Bool, true, false, cond, not, _&&_, _||_}
+use mathlib.Core.Path.{_≡_, refl, sym, ap, subst, _∙_}
+use mathlib.Core.List.{List}
+use lib.Dec.{eqb, leb}
+use lib.ListN.{length}
+use borrow.Author.Tests.{not-false}
+use Rattle.laws.proofs.Bools.{true-false, and-l, and-7, or-l, of-both}
+use Rattle.values.specs.Names.{sameName}
+use Rattle.values.specs.Points.{noPoint, withKey}
+use Rattle.values.specs.Days.{dayFits}
+use Rattle.values.specs.Keys.{noKey}
+use Rattle.values.specs.Rights.{roleOf, isCvca, isDv, isTerminal, readsGroup}
+use Rattle.values.specs.declared.name.Name.{Name}
+use Rattle.values.specs.declared.key.Key.{Key}
+use Rattle.values.specs.declared.point.Point.{Point}
+use Rattle.values.specs.declared.rights.Rights.{Rights}
+use Rattle.values.specs.declared.rights.Role.{Role}
+use Rattle.values.specs.declared.rights.Role.the-variants.{Cvca, OfficialDv, OtherDv, Terminal}
+use Rattle.command.specs.declared.kind.Kind.{Kind}
+use Rattle.event.specs.declared.run.Choice.{Choice}
+use Rattle.event.specs.declared.run.Step.{Step}
+use Rattle.event.specs.Run.{passwordOf, isPin, isPuk, isLast}
+use Rattle.event.specs.declared.happening.Refusal.{Refusal}
+use Rattle.event.specs.declared.happening.Refusal.the-variants.{Lacking, Moment, Data, NotFound, Outside}
+use Rattle.event.specs.declared.happening.Loss.{Loss}
+use Rattle.event.specs.declared.happening.Issuer.{Issuer}
+use Rattle.event.specs.declared.happening.Issuer.the-variants.{Newest, Previous, Dv}
+use Rattle.event.specs.declared.happening.Event.{Event}
+use Rattle.event.specs.declared.happening.Event.the-variants.{Refused, Lost, Chosen, StepPassed, Opened as IsOpened, RunClosed, TrialLost, Selected as IsSelected, LinkTaken, DvTaken, TerminalTaken, Announced as IsAnnounced, Challenged as IsChallenged, Proven as IsProven, ProofLost, ChipKeyChosen as IsChosen, Authenticated as IsAuthenticated, ChipLost, ReadAllowed, PinChanged, UnblockedByPuk, UnblockedByRight, Activated, Deactivated, NotPassed}
+use Rattle.event.specs.declared.course.Note.{Note}
+use Rattle.event.specs.declared.course.Guard.{Guard}
+use Rattle.event.specs.declared.course.Guard.the-variants.{Passes, Drops}
+use Rattle.event.specs.declared.course.Job.{Job}
+use Rattle.event.specs.declared.course.Job.the-variants.{Step as StepJob, Certificate, Challenge as ChallengeJob, Proof, ChipKey, PinChange}
+use Rattle.event.specs.declared.course.Course.{Course}
+use Rattle.event.specs.declared.course.Course.the-variants.{Settled, Awaits}
+use Rattle.event.specs.declared.course.Plan.{Plan}
+use Rattle.event.specs.declared.settle.Answered.{Answered}
+use Rattle.event.specs.declared.settle.Happened.{Happened}
+use Rattle.event.specs.Course.{settledBy, awaitsBy, guardOf}
+use Rattle.event.specs.Settle.{takenIn, endsBy, passesBy, settleOf}
+use Rattle.event.proofs.Settles.{settle-all}
+use Rattle.order.specs.Order.{chooseLadder, passedEvent, trialOf, otherEvent, issues, takenEvent, verifyLadder, grounded, unblockLadder}
+use Rattle.trust.specs.Trust.{pointsFit, knows, found, holderOf}
+use Rattle.trust.specs.declared.Points.{Points}
+use Rattle.trust.specs.declared.Anchor.{Anchor}
+use Rattle.trust.specs.declared.Anchor.the-variants.{Is, Unknown}
+use Rattle.fields.specs.declared.asked.Content.{Content}
+use Rattle.fields.specs.declared.asked.Content.the-variants.{Step as StepData, Chip}
+use Rattle.fields.specs.declared.asked.Ask.{Ask}
+use Rattle.fields.specs.declared.asked.Ask.the-variants.{Bad, Choose, General, Select, Verify, Announce, Challenge, Prove, ChooseChipKey, Read, ChangePin, Unblock, Activate, Deactivate}
+use Rattle.fields.specs.declared.asked.Request.{Request}
+use Rattle.fields.specs.declared.asked.Request.the-variants.{Refused as Faulty, Asks}
+use Rattle.fields.specs.declared.asked.Asked.{Asked}
+use Rattle.fields.specs.Asked.{askedOf}
+use Rattle.fields.proofs.Facts.{Of, of-bad, of-choose, of-general, of-select, of-verify, of-announce, of-challenge, of-prove, of-chip-key, of-read, of-change-pin, of-unblock, of-activate, of-deactivate, kind-of}
+use Rattle.session.specs.declared.Selected.{Selected}
+use Rattle.session.specs.declared.Selected.the-variants.{NoIssuer, Of as Chose}
+use Rattle.session.specs.declared.Stage.{Stage}
+use Rattle.session.specs.declared.Stage.the-variants.{Idle, Run, Announced, Challenged, Proven, ChipKeyChosen, Authenticated}
+use Rattle.session.specs.Session.{isOpen, openedByPin, openedByCan, openedByPuk, hasRights, hasDv, hasTerminal, isSelected}
+use Rattle.session.specs.Moment.{rank, unproven, momentOf}
+use Rattle.session.specs.Authorization.{authorization}
+use Rattle.session.specs.Fits.{contextFits}
+use Rattle.token.specs.declared.state.Token.{Token}
+use Rattle.token.specs.State.{tries, uses}
+use Rattle.token.specs.Limits.{selectable, inLimits}
+use Rattle.token.specs.Commands.{contextOf, managesPin, isFor, choosePlan, runPlan, chipPlan, generalPlan, announcePlan, readPlan, changePlan, unblockPlan, activePlan}
+use Rattle.token.specs.Certify.{chainOf, selectBy, selectPlan, repeats, late, heldCourse, underCourse, underPlan, verifyPlan}
+use Rattle.token.specs.Plan.{commandOf, timedOf, requestedOf, guarded, planOf}
+use Rattle.token.specs.Step.{happenedOf}
+
+-- ---- what a token grants to each event
+
+-- "need confirmed rights and terminal not yet proven"
+abbrev pub certifying : Token → Bool
+certifying t = hasRights (contextOf t .confirmed) && unproven (contextOf t .stage)
+
+-- a trust point that is held
+pub data Holds (h : Points) : Point → Type 0 where
+  as-newest : Holds h (h .newest)
+  as-previous : h .two ≡ true → Holds h (h .previous)
+
+-- an issuer that may be selected
+pub data Selects (t : Token) : Issuer → Type 0 where
+  to-newest : Selects t Newest
+  to-previous : t .points .two ≡ true → Selects t Previous
+  to-dv : hasDv (chainOf t) ≡ true → Selects t Dv
+
+-- a command whose verdict may fail with no change
+pub data Quiet : Ask → Type 0 where
+  verifying : Quiet Verify
+  challenging : Quiet Challenge
+  changing : Quiet ChangePin
+
+pub data Fits (t : Token) (a : Asked) : Event → Point → Key → Type 0 where
+  is-refused : {w : Refusal} {p : Point} {k : Key} → Fits t a (Refused w) p k
+  is-lost : {l : Loss} {p : Point} {k : Key} → Fits t a (Lost l) p k
+  is-chosen : {m : Kind} {ch : Bool} {c : Choice} {p : Point} {k : Key} → a .request ≡ Asks m ch (Choose c) → isPin (passwordOf c) && eqb (t .pin) 0 ≡ false → Fits t a (Chosen c (t .pin)) p k
+  is-stepped : {m : Kind} {ch : Bool} {x : Step} {c : Choice} {s : Step} {p : Point} {k : Key} → a .request ≡ Asks m ch (General (StepData x)) → contextOf t .stage ≡ Run c s → isLast s ≡ false → Fits t a (StepPassed c s) p k
+  is-opened : {m : Kind} {ch : Bool} {x : Step} {c : Choice} {s : Step} {p : Point} {k : Key} → a .request ≡ Asks m ch (General (StepData x)) → contextOf t .stage ≡ Run c s → isLast s ≡ true → Fits t a (IsOpened c) p k
+  is-closed : {m : Kind} {ch : Bool} {x : Step} {c : Choice} {s : Step} {p : Point} {k : Key} → a .request ≡ Asks m ch (General (StepData x)) → contextOf t .stage ≡ Run c s → Fits t a RunClosed p k
+  is-fell : {m : Kind} {ch : Bool} {x : Step} {c : Choice} {s : Step} {p : Point} {k : Key} → a .request ≡ Asks m ch (General (StepData x)) → contextOf t .stage ≡ Run c s → Fits t a (TrialLost (t .pin - 1)) p k
+  is-selected : {m : Kind} {ch : Bool} {i : Issuer} {p : Point} {k : Key} → a .request ≡ Asks m ch Select → Selects t i → Fits t a (IsSelected i) p k
+  is-linked : (n : ℕ) {m : Kind} {ch : Bool} {k : Key} → a .request ≡ Asks m ch Verify → certifying t ≡ true → roleOf (a .point .rights) ≡ Cvca → knows (t .points) (a .point .name) ≡ false
+      → Fits t a LinkTaken (withKey (a .point) n) k
+  is-deputed : (n : ℕ) {m : Kind} {ch : Bool} {h : Point} {k : Key} → a .request ≡ Asks m ch Verify → certifying t ≡ true → isDv (roleOf (a .point .rights)) ≡ true → knows (t .points) (a .point .name) ≡ false
+      → Holds (t .points) h → sameName (a .name) (h .name) ≡ true → Fits t a (DvTaken (h .rights)) (withKey (a .point) n) k
+  is-completed : (n : ℕ) {m : Kind} {ch : Bool} {k : Key} → a .request ≡ Asks m ch Verify → certifying t ≡ true → roleOf (a .point .rights) ≡ Terminal → hasDv (chainOf t) ≡ true
+      → sameName (a .name) (chainOf t .dv .name) ≡ true → Fits t a TerminalTaken (withKey (a .point) n) k
+  is-announced : {m : Kind} {ch : Bool} {p : Point} → a .request ≡ Asks m ch Announce → hasTerminal (chainOf t) && unproven (contextOf t .stage) ≡ true → Fits t a IsAnnounced p (a .key)
+  is-challenged : {m : Kind} {ch : Bool} {p : Point} {k : Key} → a .request ≡ Asks m ch Challenge → eqb (rank (contextOf t .stage)) 2 || eqb (rank (contextOf t .stage)) 3 ≡ true → Fits t a IsChallenged p k
+  is-proven : {m : Kind} {ch : Bool} {p : Point} {k : Key} → a .request ≡ Asks m ch Prove → eqb (rank (contextOf t .stage)) 3 ≡ true → Fits t a IsProven p k
+  is-disproved : {m : Kind} {ch : Bool} {p : Point} {k : Key} → a .request ≡ Asks m ch Prove → eqb (rank (contextOf t .stage)) 3 ≡ true → Fits t a ProofLost p k
+  is-chip : {m : Kind} {ch : Bool} {p : Point} {k : Key} → a .request ≡ Asks m ch ChooseChipKey → eqb (rank (contextOf t .stage)) 4 || eqb (rank (contextOf t .stage)) 5 ≡ true → Fits t a IsChosen p k
+  is-authenticated : {m : Kind} {ch : Bool} {p : Point} {k : Key} → a .request ≡ Asks m ch (General Chip) → contextOf t .stage ≡ ChipKeyChosen → Fits t a IsAuthenticated p k
+  is-chip-lost : {m : Kind} {ch : Bool} {p : Point} {k : Key} → a .request ≡ Asks m ch (General Chip) → contextOf t .stage ≡ ChipKeyChosen → Fits t a ChipLost p k
+  not-passed : {m : Kind} {ch : Bool} {x : Ask} {p : Point} {k : Key} → a .request ≡ Asks m ch x → Quiet x → Fits t a NotPassed p k
+  is-read : {m : Kind} {ch : Bool} {n : ℕ} {p : Point} {k : Key} → a .request ≡ Asks m ch (Read n) → Fits t a ReadAllowed p k
+  is-changed : {m : Kind} {ch : Bool} {p : Point} {k : Key} → a .request ≡ Asks m ch ChangePin → Fits t a PinChanged p k
+  is-unblocked-puk : {m : Kind} {ch : Bool} {p : Point} {k : Key} → a .request ≡ Asks m ch Unblock → Fits t a UnblockedByPuk p k
+  is-unblocked : {m : Kind} {ch : Bool} {p : Point} {k : Key} → a .request ≡ Asks m ch Unblock → Fits t a UnblockedByRight p k
+  is-activated : {m : Kind} {ch : Bool} {p : Point} {k : Key} → a .request ≡ Asks m ch Activate → Fits t a Activated p k
+  is-deactivated : {m : Kind} {ch : Bool} {p : Point} {k : Key} → a .request ≡ Asks m ch Deactivate → Fits t a Deactivated p k
+
+-- ---- a state within its limits, rung by rung
+
+pub record Lim (t : Token) : Type 0 where
+  pub pin : leb (t .pin) tries ≡ true
+  pub puk : leb (t .puk) uses ≡ true
+  pub today : dayFits (t .today) ≡ true
+  pub points : pointsFit (t .points) ≡ true
+  pub context : contextFits (contextOf t) (t .pin) ≡ true
+  pub dv : not (hasDv (chainOf t) && knows (t .points) (chainOf t .dv .name)) ≡ true
+  pub chosen : selectable (t .session .selected) (t .points .two) (hasDv (chainOf t)) ≡ true
+
+pub limits-of : (t : Token) → inLimits t ≡ true → Lim t
+unfolding inLimits
+limits-of t h =
+    let k =
+    and-7 (leb (t .pin) tries) (leb (t .puk) uses) (dayFits (t .today)) (pointsFit (t .points)) (contextFits (contextOf t) (t .pin))
+    (not (hasDv (chainOf t) && knows (t .points) (chainOf t .dv .name))) (selectable (t .session .selected) (t .points .two) (hasDv (chainOf t))) h in
+    record { pin = k .0; puk = k .1; today = k .2; points = k .3; context = k .4; dv = k .5; chosen = k .6 }
+
+pub in-limits : {t : Token} → Lim t → inLimits t ≡ true
+unfolding inLimits
+in-limits l = cc
+
+-- ---- the walk down the plan
+
+data Course·Fits (t : Token) (a : Asked) (p : Point) (k : Key) : Course → Type 0 where
+  at-once : {e : Event} → Fits t a e p k → Course·Fits t a p k (Settled e)
+  in-time : {j : Job} {x y : Event} → ((n : ℕ) → Fits t a x (takenIn j p n) k) → Fits t a y p k → Course·Fits t a p k (Awaits j x y)
+
+abbrev Plan·Fits : Token → Asked → Plan → Type 0
+Plan·Fits t a q = Course·Fits t a (q .point) (q .key) (q .course)
+
+-- one check of a ladder, with what it tells
+rung : {A : Type 0} (P : A → Type 0) (b : Bool) {x y : A} → (b ≡ true → P x) → (b ≡ false → P y) → P (cond b x y)
+rung P true f g = f refl
+rung P false f g = g refl
+
+module _ (t : Token) (a : Asked) where
+  once : (e : Event) → Fits t a e noPoint noKey → Plan·Fits t a (settledBy e)
+  unfolding settledBy
+  once e f = at-once f
+
+  refuses : (w : Refusal) → Plan·Fits t a (settledBy (Refused w))
+  refuses w = once (Refused w) is-refused
+
+  waits : (j : Job) (x y : Event) → ((n : ℕ) → Fits t a x (takenIn j noPoint n) noKey) → Fits t a y noPoint noKey → Plan·Fits t a (awaitsBy j x y)
+  unfolding awaitsBy
+  waits j x y f g = in-time f g
+
+  abbrev On : Event → Type 0
+  On e = Fits t a e noPoint noKey
+
+  -- the trust points may be selected, and the chain's DV
+  found-selects : (n : Name) (i : Issuer) → found (t .points) n ≡ Is i → Selects t i
+  unfolding found
+  found-selects n i = go (sameName n (t .points .newest .name)) (t .points .two) refl (sameName n (t .points .previous .name))
+    where
+      go : (x two : Bool) → t .points .two ≡ two → (y : Bool) → cond x (Is Newest) (cond (two && y) (Is Previous) Unknown) ≡ Is i → Selects t i
+      go true two e y q = subst (Selects t) (let z : Newest ≡ i = cc in z) to-newest
+      go false true e true q = subst (Selects t) (let z : Previous ≡ i = cc in z) (to-previous e)
+      go false true e false q = true-false (cc)
+      go false false e y q = true-false (cc)
+
+  -- the ladders' ways
+  choose-ways : (s i l u : Bool) (c : Choice) (n : ℕ) → (s ≡ false → On (Chosen c n)) → On (chooseLadder s i l u c n)
+  choose-ways true i l u c n f = is-refused
+  choose-ways false true l u c n f = is-refused
+  choose-ways false false true u c n f = is-refused
+  choose-ways false false false true c n f = is-refused
+  choose-ways false false false false c n f = f refl
+
+  verify-ways : (m r u l : Bool) (x : Event) → (m ≡ false → r ≡ false → u ≡ false → (n : ℕ) → Fits t a x (withKey (a .point) n) noKey) → Fits t a NotPassed (a .point) noKey
+      → Course·Fits t a (a .point) noKey (verifyLadder m r u l x)
+  verify-ways true r u l x f g = at-once is-refused
+  verify-ways false true u l x f g = at-once is-refused
+  verify-ways false false true l x f g = at-once is-refused
+  verify-ways false false false true x f g = at-once is-refused
+  verify-ways false false false false x f g = in-time (f refl refl refl) g
+
+  unblock-ways : (p r u f : Bool) → On UnblockedByPuk → On UnblockedByRight → On (unblockLadder p r u f)
+  unblock-ways true r true f x y = is-refused
+  unblock-ways true r false true x y = is-refused
+  unblock-ways true r false false x y = x
+  unblock-ways false true u true x y = is-refused
+  unblock-ways false true u false x y = y
+  unblock-ways false false u f x y = is-refused
+
+  run-chip : (c : Choice) (s : Step) → Plan·Fits t a (runPlan t c s Chip)
+  unfolding runPlan
+  run-chip c s = refuses Data
+
+  active-fits : (e : Event) → On e → Plan·Fits t a (activePlan t e)
+  unfolding activePlan
+  active-fits e f = once _ (of-both On (managesPin t) f is-refused)
+
+  module _ {m : Kind} {ch : Bool} where
+    choose-fits : (c : Choice) → a .request ≡ Asks m ch (Choose c) → Plan·Fits t a (choosePlan t c)
+    unfolding choosePlan
+    choose-fits c q =
+        once _
+        (choose-ways (isPin (passwordOf c) && eqb (t .pin) 0) (isPin (passwordOf c) && not (t .active)) (isPin (passwordOf c) && eqb (t .pin) 1 && not (openedByCan (contextOf t .opened)))
+        (isPuk (passwordOf c) && eqb (t .puk) 0) c (t .pin) (λ e. is-chosen q e))
+
+    run-fits : (x : Step) (c : Choice) (s : Step) → a .request ≡ Asks m ch (General (StepData x)) → contextOf t .stage ≡ Run c s → Plan·Fits t a (runPlan t c s (StepData x))
+    unfolding runPlan
+    run-fits x c s q r =
+        rung (Plan·Fits t a) (not (isFor (StepData x) s)) (λ e. refuses Data)
+        (λ e. waits (StepJob s) (passedEvent c s) (otherEvent c s (t .pin)) (λ n. rung On (isLast s) (λ l. is-opened q r l) (λ l. is-stepped q r l))
+        (of-both On (isLast s) (of-both On (isPin (passwordOf c)) (is-fell q r) (is-closed q r)) (is-closed q r)))
+
+    chip-fits : (x : Content) → a .request ≡ Asks m ch (General x) → contextOf t .stage ≡ ChipKeyChosen → Plan·Fits t a (chipPlan t x)
+    unfolding chipPlan
+    chip-fits (StepData s) q r = refuses Data
+    chip-fits Chip q r = in-time (λ n. is-authenticated q r) (is-chip-lost q r)
+
+    general-fits : (x : Content) (s : Stage) → a .request ≡ Asks m ch (General x) → contextOf t .stage ≡ s → Plan·Fits t a (generalPlan t s x)
+    unfolding generalPlan
+    general-fits (StepData x) (Run c s) q r = run-fits x c s q r
+    general-fits Chip (Run c s) q r = run-chip c s
+    general-fits x ChipKeyChosen q r = chip-fits x q r
+    general-fits x Idle q r = refuses Moment
+    general-fits x Announced q r = refuses Moment
+    general-fits x Challenged q r = refuses Moment
+    general-fits x Proven q r = refuses Moment
+    general-fits x Authenticated q r = refuses Moment
+
+    select-fits : (n : Name) → a .request ≡ Asks m ch Select → Plan·Fits t a (selectPlan t n)
+    unfolding selectPlan
+    select-fits n q = go (found (t .points) n) refl
+      where
+        go : (x : Anchor) → found (t .points) n ≡ x → Plan·Fits t a (selectBy t n x)
+        go (Is i) e = once _ (is-selected q (found-selects n i e))
+        go Unknown e =
+            rung (Plan·Fits t a) (hasDv (chainOf t) && sameName n (chainOf t .dv .name)) (λ f. once _ (is-selected q (to-dv (and-l (hasDv (chainOf t)) (sameName n (chainOf t .dv .name)) f)))) (λ f. refuses NotFound)
+
+    -- under each issuer, each role
+    module _ (q : a .request ≡ Asks m ch Verify) (c : certifying t ≡ true) where
+      taken-fits : (i : Issuer) (o : Role) → roleOf (a .point .rights) ≡ o → selectable (Chose i) (t .points .two) (hasDv (chainOf t)) ≡ true → not (issues i o) ≡ false
+          → repeats t (a .point .name) o ≡ false → not (sameName (a .name) (holderOf (t .points) i (chainOf t .dv) .name)) ≡ false
+          → (n : ℕ) → Fits t a (takenEvent o (holderOf (t .points) i (chainOf t .dv) .rights)) (withKey (a .point) n) noKey
+      unfolding repeats
+      taken-fits Newest Cvca r s e f g n = is-linked n q c r (or-l (knows (t .points) (a .point .name)) _ f)
+      taken-fits Newest OfficialDv r s e f g n = is-deputed n q c (rw r) (or-l (knows (t .points) (a .point .name)) _ f) as-newest (not-false _ g)
+      taken-fits Newest OtherDv r s e f g n = is-deputed n q c (rw r) (or-l (knows (t .points) (a .point .name)) _ f) as-newest (not-false _ g)
+      taken-fits Newest Terminal r s e f g n = true-false e
+      taken-fits Previous Cvca r s e f g n = is-linked n q c r (or-l (knows (t .points) (a .point .name)) _ f)
+      taken-fits Previous OfficialDv r s e f g n = is-deputed n q c (rw r) (or-l (knows (t .points) (a .point .name)) _ f) (as-previous s) (not-false _ g)
+      taken-fits Previous OtherDv r s e f g n = is-deputed n q c (rw r) (or-l (knows (t .points) (a .point .name)) _ f) (as-previous s) (not-false _ g)
+      taken-fits Previous Terminal r s e f g n = true-false e
+      taken-fits Dv Cvca r s e f g n = true-false e
+      taken-fits Dv OfficialDv r s e f g n = true-false e
+      taken-fits Dv OtherDv r s e f g n = true-false e
+      taken-fits Dv Terminal r s e f g n = is-completed n q c r s (not-false _ g)
+
+      under-fits : (i : Issuer) → selectable (Chose i) (t .points .two) (hasDv (chainOf t)) ≡ true → Plan·Fits t a (underPlan t i (a .name) (a .point))
+      unfolding underPlan underCourse
+      under-fits i s =
+          let o : Role = roleOf (a .point .rights) in
+          let h : Point = holderOf (t .points) i (chainOf t .dv) in
+          verify-ways (not (issues i o)) (repeats t (a .point .name) o) (not (sameName (a .name) (h .name))) (late t (a .point) h o) (takenEvent o (h .rights)) (taken-fits i o refl s)
+          (not-passed q verifying)
+
+      verify-fits : (s : Selected) → selectable s (t .points .two) (hasDv (chainOf t)) ≡ true → Plan·Fits t a (verifyPlan t s (a .name) (a .point))
+      unfolding verifyPlan
+      verify-fits NoIssuer e = refuses Moment
+      verify-fits (Chose i) e = under-fits i e
+
+    announce-fits : a .request ≡ Asks m ch Announce → hasTerminal (chainOf t) && unproven (contextOf t .stage) ≡ true → Plan·Fits t a (announcePlan t (a .name) (a .key))
+    unfolding announcePlan
+    announce-fits q e = of-both (Plan·Fits t a) (sameName (a .name) (contextOf t .chain .terminal .name)) (at-once (is-announced q e)) (refuses NotFound)
+
+    read-fits : (n : ℕ) → a .request ≡ Asks m ch (Read n) → Plan·Fits t a (readPlan t n)
+    unfolding readPlan
+    read-fits n q = once _ (of-both On (readsGroup (authorization (contextOf t)) n) (is-read q) is-refused)
+
+    change-fits : a .request ≡ Asks m ch ChangePin → Plan·Fits t a (changePlan t)
+    unfolding changePlan
+    change-fits q =
+        of-both (Plan·Fits t a) ((openedByPin (contextOf t .opened) && t .active) || managesPin t) (waits PinChange PinChanged NotPassed (λ n. is-changed q) (not-passed q changing)) (refuses Lacking)
+
+    unblock-fits : a .request ≡ Asks m ch Unblock → Plan·Fits t a (unblockPlan t)
+    unfolding unblockPlan
+    unblock-fits q = once _ (unblock-ways (openedByPuk (contextOf t .opened)) (managesPin t) (eqb (t .puk) 0) (eqb (t .pin) tries) (is-unblocked-puk q) (is-unblocked q))
+
+  -- every ask, at its moment
+  command-fits : {m : Kind} {ch : Bool} {x : Ask} → inLimits t ≡ true → Of m x → a .request ≡ Asks m ch x → momentOf (t .session) m ch ≡ true → Plan·Fits t a (commandOf t a x)
+  unfolding commandOf momentOf
+  command-fits l of-bad q e = refuses Data
+  command-fits l (of-choose {c = c}) q e = choose-fits c q
+  command-fits l (of-general {c = x}) q e = general-fits x (contextOf t .stage) q refl
+  command-fits l of-select q e = select-fits (a .name) q
+  command-fits l of-verify q e = verify-fits q (and-l (certifying t) (isSelected (t .session .selected)) e) (t .session .selected) (limits-of t l .chosen)
+  command-fits l of-announce q e = announce-fits q e
+  command-fits l of-challenge q e = waits ChallengeJob IsChallenged NotPassed (λ n. is-challenged q e) (not-passed q challenging)
+  command-fits l of-prove q e = waits Proof IsProven ProofLost (λ n. is-proven q e) (is-disproved q e)
+  command-fits l of-chip-key q e = once _ (is-chip q e)
+  command-fits l (of-read {n = n}) q e = read-fits n q
+  command-fits l of-change-pin q e = change-fits q
+  command-fits l of-unblock q e = unblock-fits q
+  command-fits l of-activate q e = active-fits Activated (is-activated q)
+  command-fits l of-deactivate q e = active-fits Deactivated (is-deactivated q)
+
+  timed-fits : (m : Kind) (ch : Bool) (x : Ask) → inLimits t ≡ true → Of m x → a .request ≡ Asks m ch x → Plan·Fits t a (timedOf t a m ch x)
+  unfolding timedOf
+  timed-fits m ch x l o q = rung (Plan·Fits t a) (not (momentOf (t .session) m ch)) (λ e. refuses Moment) (λ e. command-fits l o q (not-false (momentOf (t .session) m ch) e))
+
+  guard-fits : (g : Guard) (p : Plan) → Plan·Fits t a p → Plan·Fits t a (guarded g p)
+  unfolding guarded
+  guard-fits (Drops l) p f = once (Lost l) is-lost
+  guard-fits Passes p f = f
+
+module _ (t : Token) (s : List ℕ) where
+  request-fits : inLimits t ≡ true → (r : Request) → askedOf s .request ≡ r → Plan·Fits t (askedOf s) (requestedOf t (askedOf s) r)
+  unfolding requestedOf
+  request-fits l (Faulty w) q = refuses t (askedOf s) w
+  request-fits l (Asks m ch x) q = timed-fits t (askedOf s) m ch x l (kind-of s m ch x q) q
+
+  plan-fits : (note : Note) → Plan·Fits t (askedOf s) (planOf t s note)
+  unfolding planOf
+  plan-fits note =
+      rung (Plan·Fits t (askedOf s)) (not (inLimits t)) (λ e. refuses t (askedOf s) Outside)
+      (λ e. guard-fits t (askedOf s) (guardOf note (isOpen (contextOf t .opened))) _ (request-fits (not-false (inLimits t) e) (askedOf s .request) refl))
+
+  -- what happens fits
+  pub fits : (note : Note) (r : Answered) (first second : List ℕ)
+      → Fits t (askedOf s) (happenedOf t s note r first second .event) (happenedOf t s note r first second .point) (happenedOf t s note r first second .key)
+  unfolding endsBy passesBy
+  fits note r first second =
+      settle-all (λ (h : Happened). Fits t (askedOf s) (h .event) (h .point) (h .key)) q r (length first) second (λ e i. settled i (plan-fits note)) (λ j x y i. otherwise i (plan-fits note))
+      (λ j x y i f n. passed n i (plan-fits note))
+    where
+      q : Plan
+      q = planOf t s note
+
+      settled : {c : Course} {e : Event} → c ≡ Settled e → Course·Fits t (askedOf s) (q .point) (q .key) c → Fits t (askedOf s) e (q .point) (q .key)
+      settled i (at-once f) = subst (λ (x : Event). Fits t (askedOf s) x (q .point) (q .key)) (cc) f
+      settled i (in-time f g) = true-false (cc)
+
+      otherwise : {c : Course} {j : Job} {x y : Event} → c ≡ Awaits j x y → Course·Fits t (askedOf s) (q .point) (q .key) c → Fits t (askedOf s) y (q .point) (q .key)
+      otherwise i (at-once f) = true-false (cc)
+      otherwise i (in-time f g) = subst (λ (x : Event). Fits t (askedOf s) x (q .point) (q .key)) (cc) g
+
+      passed : {c : Course} {j : Job} {x y : Event} (n : ℕ) → c ≡ Awaits j x y → Course·Fits t (askedOf s) (q .point) (q .key) c → Fits t (askedOf s) x (takenIn j (q .point) n) (q .key)
+      passed n i (at-once f) = true-false (cc)
+      passed {j = j} {x = x} n i (in-time {j = k} {x = z} f g) =
+          let u : k ≡ j = cc in
+          let v : z ≡ x = cc in
+          subst (λ (m : Job). Fits t (askedOf s) x (takenIn m (q .point) n) (q .key)) u (subst (λ (w : Event). Fits t (askedOf s) w (takenIn k (q .point) n) (q .key)) v (f n))

@@ -1,0 +1,374 @@
+-- The token and the rule agree: an invariant between the token and the rule's own functions, kept by every event.
+-- Assumes nothing.
+use Prim.Native.Nat.{ℕ, suc, _+_}
+use mathlib.Core.Bool.{Bool, true, false, cond, not, _&&_, _||_}
+use mathlib.Core.Path.{_≡_, refl, sym, ap, subst, _∙_}
+use mathlib.Core.Option.{Option, none, some}
+use mathlib.Core.List.{List, [], _∷_}
+use borrow.Author.Tests.{not-true}
+use lib.Dec.{eqb, leb, ltb}
+use Rattle.laws.proofs.Bools.{true-false, and-l, and-r, or-then, of-both}
+use Rattle.values.specs.Names.{sameName}
+use Rattle.values.specs.Rights.{roleOf, isDv}
+use Rattle.values.specs.Points.{noPoint, withKey}
+use Rattle.values.specs.Keys.{noKey}
+use Rattle.values.proofs.Kept.{same-for, same-turned}
+use Rattle.values.specs.declared.name.Name.{Name}
+use Rattle.values.specs.declared.key.Key.{Key}
+use Rattle.values.specs.declared.day.Day.{Day}
+use Rattle.values.specs.declared.point.Point.{Point}
+use Rattle.values.specs.declared.rights.Rights.{Rights}
+use Rattle.values.specs.declared.rights.Role.{Role}
+use Rattle.values.specs.declared.rights.Role.the-variants.{Cvca, OfficialDv, OtherDv, Terminal}
+use Rattle.values.specs.declared.rights.Granted.{Granted}
+use Rattle.values.specs.declared.rights.Granted.the-variants.{These, NoRights}
+use Rattle.event.specs.declared.run.Password.{Password}
+use Rattle.event.specs.declared.run.Choice.{Choice}
+use Rattle.event.specs.declared.run.Step.{Step}
+use Rattle.event.specs.declared.run.Step.the-variants.{Nonce, Map, Agree, Confirm}
+use Rattle.event.specs.Run.{passwordOf, rightsNamed, isLast, nextStep}
+use Rattle.event.specs.declared.happening.Event.{Event}
+use Rattle.event.specs.declared.course.Note.{Note}
+use Rattle.event.specs.declared.settle.Answered.{Answered}
+use Rattle.trust.specs.Trust.{anchorFits, pointsFit, linked}
+use Rattle.trust.specs.declared.Points.{Points}
+use Rattle.fields.specs.declared.asked.Asked.{Asked}
+use Rattle.fields.specs.Asked.{askedOf}
+use Rattle.session.specs.declared.Opened.{Opened}
+use Rattle.session.specs.declared.Opened.the-variants.{Nobody, By}
+use Rattle.session.specs.declared.Reach.{Reach}
+use Rattle.session.specs.declared.Reach.the-variants.{Empty, ToDv, ToTerminal}
+use Rattle.session.specs.declared.Chain.{Chain}
+use Rattle.session.specs.declared.Stage.{Stage}
+use Rattle.session.specs.declared.Stage.the-variants.{Idle, Run, Announced as AtAnnounced, Challenged as AtChallenged, Proven as AtProven, ChipKeyChosen as AtChosen, Authenticated as AtAuthenticated}
+use Rattle.session.specs.declared.Context.{Context}
+use Rattle.session.specs.declared.Session.{Session}
+use Rattle.session.specs.Session.{reachesDv, hasRights, hasDv, hasTerminal, noChain, bareSession, atStage}
+use Rattle.session.specs.Moment.{rank, told, unproven, isAuthenticated}
+use Rattle.token.specs.declared.state.Token.{Token}
+use Rattle.token.specs.State.{resetOf, startOf}
+use Rattle.token.specs.Commands.{contextOf}
+use Rattle.token.specs.Certify.{chainOf}
+use Rattle.token.specs.After.{choiceTaken, staged, stepPassed, opened, runClosed, trialLost, issuerSelected, linkTaken, dvTaken, extended, terminalTaken, announced, unblocked, unblockedByPuk, activated, afterOf}
+use Rattle.reached.proofs.Fits.{Lim, limits-of, in-limits, certifying, Holds, as-newest, as-previous, Quiet, verifying, challenging, changing, Fits, is-refused, is-lost, is-chosen, is-stepped, is-opened, is-closed, is-fell, is-selected, is-linked, is-deputed, is-completed, is-announced, is-challenged, is-proven, is-disproved, is-chip, is-authenticated, is-chip-lost, not-passed, is-read, is-changed, is-unblocked-puk, is-unblocked, is-activated, is-deactivated, fits}
+use Rattle.record.specs.Rule.{Fact, Taken, StepPassed, ChipPassed, Accepted, Announced, Challenged, Proved, Disproved, Lost, Nothing, requestFact, factBy, factOf, factsOf, Anchor, Held, linkedBy, held, rightsIn, lastChoice, steps, naming, named, ruleA, Dv, Trio, under, lastDv, ruleB, orElse, dvBy, announcement, challenge, ruleC, ruleD, inAll, ruleE, readable}
+use Rattle.record.specs.Claim.{anchorOf, anchors}
+use Rattle.record.proofs.Words.{factAt}
+
+-- ---- what a session holds, in the rule's terms
+
+-- a challenge stands; the terminal is proven
+abbrev pub dared : Stage → Bool
+dared s = leb 3 (rank s)
+
+abbrev pub proven : Stage → Bool
+proven s = leb 4 (rank s)
+
+abbrev pub confirmedBy : Opened → Granted → Option (Password × Rights)
+confirmedBy Nobody g = none
+confirmedBy (By w) g = naming w g
+
+-- the DV, if there is one, is the record's latest
+abbrev pub Below : Reach → Point → Option Dv → Type 0
+Below Empty d o = Unit {0}
+Below (ToDv root) d o = o ≡ some (record { anchor = some root; name = d .name; rights = d .rights })
+Below (ToTerminal root) d o = o ≡ some (record { anchor = some root; name = d .name; rights = d .rights })
+
+abbrev pub trioOf : Reach → Point → Point → Option Trio
+trioOf Empty d u = none
+trioOf (ToDv root) d u = none
+trioOf (ToTerminal root) d u = some (record { anchor = root; dv = d .rights; terminal = u .rights })
+
+abbrev pub turns : Step → ℕ
+turns Nonce = 0
+turns Map = 1
+turns Agree = 2
+turns Confirm = 3
+
+-- in a run the choice is the record's last, and its steps are those passed so far
+abbrev pub Running : Stage → Option Choice → ℕ → Option Trio → Type 0
+Running Idle c m b = Unit {0}
+Running (Run c s) o m b = (o ≡ some c) × (m ≡ turns s) × (b ≡ none)
+Running AtAnnounced c m b = Unit {0}
+Running AtChallenged c m b = Unit {0}
+Running AtProven c m b = Unit {0}
+Running AtChosen c m b = Unit {0}
+Running AtAuthenticated c m b = Unit {0}
+
+pub record Inv (h : Held) (ps : Points) (c : Context) (r : List Fact) : Type 0 where
+  pub points : anchors ps ≡ held h r
+  pub rights : confirmedBy (c .opened) (c .confirmed) ≡ ruleA r
+  pub deputy : Below (c .chain .reach) (c .chain .dv) (lastDv h r)
+  pub trio : trioOf (c .chain .reach) (c .chain .dv) (c .chain .terminal) ≡ ruleB h r
+  pub ann : told (c .stage) ≡ announcement r
+  pub chal : dared (c .stage) ≡ challenge r
+  pub prov : proven (c .stage) ≡ ruleC r
+  pub auth : isAuthenticated (c .stage) ≡ ruleD r
+  pub run : Running (c .stage) (lastChoice r) (steps r) (ruleB h r)
+
+-- ---- small facts
+
+unproven-auth : (s : Stage) → unproven s ≡ true → isAuthenticated s ≡ false
+unproven-auth Idle e = refl
+unproven-auth (Run c p) e = refl
+unproven-auth AtAnnounced e = refl
+unproven-auth AtChallenged e = refl
+unproven-auth AtProven e = refl
+unproven-auth AtChosen e = refl
+unproven-auth AtAuthenticated e = sym e
+
+-- the tests on the stage
+at-three : (s : Stage) → eqb (rank s) 3 ≡ true → s ≡ AtChallenged
+at-three Idle e = true-false (sym e)
+at-three (Run c p) e = true-false (sym e)
+at-three AtAnnounced e = true-false (sym e)
+at-three AtChallenged e = refl
+at-three AtProven e = true-false (sym e)
+at-three AtChosen e = true-false (sym e)
+at-three AtAuthenticated e = true-false (sym e)
+
+record Told (s : Stage) : Type 0 where
+  is-told : told s ≡ true
+  is-unproven : proven s ≡ false
+  is-unauth : isAuthenticated s ≡ false
+
+at-told : (s : Stage) → eqb (rank s) 2 || eqb (rank s) 3 ≡ true → Told s
+at-told Idle e = true-false (sym e)
+at-told (Run c p) e = true-false (sym e)
+at-told AtAnnounced e = record { is-told = refl; is-unproven = refl; is-unauth = refl }
+at-told AtChallenged e = record { is-told = refl; is-unproven = refl; is-unauth = refl }
+at-told AtProven e = true-false (sym e)
+at-told AtChosen e = true-false (sym e)
+at-told AtAuthenticated e = true-false (sym e)
+
+record Shown (s : Stage) : Type 0 where
+  is-told : told s ≡ true
+  is-dared : dared s ≡ true
+  is-proven : proven s ≡ true
+  is-unauth : isAuthenticated s ≡ false
+
+at-shown : (s : Stage) → eqb (rank s) 4 || eqb (rank s) 5 ≡ true → Shown s
+at-shown Idle e = true-false (sym e)
+at-shown (Run c p) e = true-false (sym e)
+at-shown AtAnnounced e = true-false (sym e)
+at-shown AtChallenged e = true-false (sym e)
+at-shown AtProven e = record { is-told = refl; is-dared = refl; is-proven = refl; is-unauth = refl }
+at-shown AtChosen e = record { is-told = refl; is-dared = refl; is-proven = refl; is-unauth = refl }
+at-shown AtAuthenticated e = true-false (sym e)
+
+-- a trust point that is held is found by its name
+differ : (ps : Points) → pointsFit ps ≡ true → ps .two ≡ true → sameName (ps .previous .name) (ps .newest .name) ≡ false
+unfolding pointsFit
+differ ps f two =
+    not-true (sameName (ps .previous .name) (ps .newest .name))
+    (and-r (anchorFits (ps .previous)) (not (sameName (ps .previous .name) (ps .newest .name)))
+    (or-then (ps .two) (anchorFits (ps .previous) && not (sameName (ps .previous .name) (ps .newest .name)))
+    (and-r (anchorFits (ps .newest)) (not (ps .two) || (anchorFits (ps .previous) && not (sameName (ps .previous .name) (ps .newest .name)))) f) two))
+
+found : (ps : Points) {p : Point} (n : Name) → pointsFit ps ≡ true → Holds ps p → sameName n (p .name) ≡ true → rightsIn (anchors ps) n ≡ some (p .rights)
+found ps n f as-newest e = rw e
+found ps n f (as-previous two) e = rw (same-for n (ps .previous .name) (ps .newest .name) e ∙ differ ps f two, two, e)
+
+no-rights : (o : Opened) → confirmedBy o NoRights ≡ none
+no-rights Nobody = refl
+no-rights (By w) = refl
+
+-- fewer than four steps
+few : (x : Option (Password × Rights)) (s : Step) {m : ℕ} → m ≡ turns s → cond (leb 4 m) x none ≡ none
+few x Nonce e = ap (λ (k : ℕ). cond (leb 4 k) x none) e
+few x Map e = ap (λ (k : ℕ). cond (leb 4 k) x none) e
+few x Agree e = ap (λ (k : ℕ). cond (leb 4 k) x none) e
+few x Confirm e = ap (λ (k : ℕ). cond (leb 4 k) x none) e
+
+-- the same session at another stage
+abbrev at : Context → Stage → Context
+at c s = record { opened = c .opened; confirmed = c .confirmed; chain = c .chain; stage = s; key = c .key }
+
+-- ---- every event keeps it
+
+module _ {h : Held} {ps : Points} {r : List Fact} where
+  -- the invariant where the stage is known
+  known : (c : Context) {s : Stage} → c .stage ≡ s → Inv h ps c r → Inv h ps (at c s) r
+  known c e i = subst (λ (s : Stage). Inv h ps (at c s) r) e i
+
+  -- nothing that counts
+  pub quiet : {c : Context} → Inv h ps c r → Inv h ps c (Nothing ∷ r)
+  quiet i = record { points = i .points; rights = i .rights; deputy = i .deputy; trio = i .trio; ann = i .ann; chal = i .chal; prov = i .prov; auth = i .auth; run = i .run }
+
+  lost : {c : Context} → Inv h ps c r → Inv h ps (bareSession Nobody NoRights Idle .context) (Lost ∷ r)
+  unfolding noChain
+  lost i = record { points = i .points; rights = refl; deputy = tt; trio = refl; ann = refl; chal = refl; prov = refl; auth = refl; run = tt }
+
+  taken : (o : Opened) (d : Choice) {c : Context} → Inv h ps c r → Inv h ps (bareSession o NoRights (Run d Nonce) .context) (Taken d ∷ r)
+  unfolding noChain
+  taken o d i = record { points = i .points; rights = no-rights o; deputy = tt; trio = refl; ann = refl; chal = refl; prov = refl; auth = refl; run = (refl, refl, refl) }
+
+  module _ (c : Context) (d : Choice) where
+    stepped : (s : Step) → isLast s ≡ false → Inv h ps (at c (Run d s)) r → Inv h ps (at c (Run d (nextStep s))) (StepPassed ∷ r)
+    stepped Nonce e i = record { points = i .points; rights = i .rights ∙ few (named (lastChoice r)) Nonce (i .run .1) ∙ sym (few (named (lastChoice r)) Map (ap suc (i .run .1))); deputy = i .deputy; trio = i .trio; ann = i .ann; chal = i .chal; prov = i .prov; auth = i .auth; run = (i .run .0, ap suc (i .run .1), i .run .2) }
+    stepped Map e i = record { points = i .points; rights = i .rights ∙ few (named (lastChoice r)) Map (i .run .1) ∙ sym (few (named (lastChoice r)) Agree (ap suc (i .run .1))); deputy = i .deputy; trio = i .trio; ann = i .ann; chal = i .chal; prov = i .prov; auth = i .auth; run = (i .run .0, ap suc (i .run .1), i .run .2) }
+    stepped Agree e i = record { points = i .points; rights = i .rights ∙ few (named (lastChoice r)) Agree (i .run .1) ∙ sym (few (named (lastChoice r)) Confirm (ap suc (i .run .1))); deputy = i .deputy; trio = i .trio; ann = i .ann; chal = i .chal; prov = i .prov; auth = i .auth; run = (i .run .0, ap suc (i .run .1), i .run .2) }
+    stepped Confirm e i = true-false e
+
+    open-now : (s : Step) → isLast s ≡ true → Inv h ps (at c (Run d s)) r → Inv h ps (bareSession (By (passwordOf d)) (rightsNamed d) Idle .context) (StepPassed ∷ r)
+    unfolding noChain
+    open-now Nonce e i = true-false (sym e)
+    open-now Map e i = true-false (sym e)
+    open-now Agree e i = true-false (sym e)
+    open-now Confirm e i =
+        record {
+          points = i .points;
+          rights = sym (ap (λ (m : ℕ). cond (leb 4 (suc m)) (named (lastChoice r)) none) (i .run .1) ∙ ap named (i .run .0));
+          deputy = tt;
+          trio = sym (i .run .2);
+          ann = i .ann;
+          chal = i .chal;
+          prov = i .prov;
+          auth = i .auth;
+          run = tt;
+        }
+
+    closed : (o : Opened) (s : Step) → Inv h ps (at c (Run d s)) r → Inv h ps (bareSession o NoRights Idle .context) (Nothing ∷ r)
+    unfolding noChain
+    closed o s i =
+        record { points = i .points; rights = no-rights o ∙ sym (few (named (lastChoice r)) s (i .run .1)); deputy = tt; trio = sym (i .run .2); ann = i .ann; chal = i .chal; prov = i .prov; auth = i .auth; run = tt }
+
+  module _ (c : Context) (n : Name) (p : Point) (u : unproven (c .stage) ≡ true) (i : Inv h ps c r) where
+    no-auth : false ≡ ruleD (Accepted n p ∷ r)
+    no-auth = sym (unproven-auth (c .stage) u) ∙ i .auth
+
+    -- a chain, where the certificate tells of points, DV and terminal
+    accepted : (qs : Points) (d : Chain) → anchors qs ≡ held h (Accepted n p ∷ r) → Below (d .reach) (d .dv) (lastDv h (Accepted n p ∷ r)) → trioOf (d .reach) (d .dv) (d .terminal) ≡ ruleB h (Accepted n p ∷ r)
+        → Inv h qs (record { opened = c .opened; confirmed = c .confirmed; chain = d; stage = Idle; key = noKey }) (Accepted n p ∷ r)
+    accepted qs d e f g = record { points = e; rights = i .rights; deputy = f; trio = g; ann = refl; chal = refl; prov = refl; auth = no-auth; run = tt }
+
+    -- what each role leaves of the points, and of a terminal
+    held-by : (o : Role) → roleOf (p .rights) ≡ o → held h (Accepted n p ∷ r) ≡ linkedBy (anchors ps) p o
+    held-by o e = ap (λ (x : Role). linkedBy (held h r) p x) e ∙ ap (λ (x : Held). linkedBy x p o) (sym (i .points))
+
+    none-under : (o : Role) → roleOf (p .rights) ≡ o → under (lastDv h r) n p o ≡ none → none ≡ ruleB h (Accepted n p ∷ r)
+    none-under o e f = sym (ap (λ (x : Role). orElse (under (lastDv h r) n p x) none) e ∙ ap (λ (x : Option Trio). orElse x none) f)
+
+    linked-now : (k : ℕ) → roleOf (p .rights) ≡ Cvca → Inv h (linked ps (withKey p k)) (record { opened = c .opened; confirmed = c .confirmed; chain = noChain; stage = Idle; key = noKey }) (Accepted n p ∷ r)
+    unfolding noChain linked withKey
+    linked-now k e = accepted (linked ps (withKey p k)) noChain (sym (held-by Cvca e)) tt (none-under Cvca e refl)
+
+    dv-at : (o : Role) → roleOf (p .rights) ≡ o → lastDv h (Accepted n p ∷ r) ≡ orElse (dvBy (anchors ps) n p o) (lastDv h r)
+    dv-at o e = ap (λ (x : Role). orElse (dvBy (held h r) n p x) (lastDv h r)) e ∙ ap (λ (x : Held). orElse (dvBy x n p o) (lastDv h r)) (sym (i .points))
+
+    deputed-now : {q : Point} (k : ℕ) → pointsFit ps ≡ true → isDv (roleOf (p .rights)) ≡ true → Holds ps q → sameName n (q .name) ≡ true
+        → Inv h ps (record { opened = c .opened; confirmed = c .confirmed; chain = record { reach = ToDv (q .rights); dv = withKey p k; terminal = noPoint }; stage = Idle; key = noKey }) (Accepted n p ∷ r)
+    unfolding withKey
+    deputed-now {q} k f e g s = go (roleOf (p .rights)) refl e
+      where
+        at-dv : Option Rights → Option Dv
+        at-dv x = some (record { anchor = x; name = p .name; rights = p .rights })
+
+        go : (o : Role) → roleOf (p .rights) ≡ o → isDv o ≡ true
+            → Inv h ps (record { opened = c .opened; confirmed = c .confirmed; chain = record { reach = ToDv (q .rights); dv = withKey p k; terminal = noPoint }; stage = Idle; key = noKey }) (Accepted n p ∷ r)
+        go Cvca d z = true-false (sym z)
+        go OfficialDv d z = accepted ps _ (sym (held-by OfficialDv d)) (dv-at OfficialDv d ∙ ap at-dv (found ps n f g s)) (none-under OfficialDv d refl)
+        go OtherDv d z = accepted ps _ (sym (held-by OtherDv d)) (dv-at OtherDv d ∙ ap at-dv (found ps n f g s)) (none-under OtherDv d refl)
+        go Terminal d z = true-false (sym z)
+
+    completed-now : (k : ℕ) → roleOf (p .rights) ≡ Terminal → hasDv (c .chain) ≡ true → sameName n (c .chain .dv .name) ≡ true
+        → Inv h ps (record { opened = c .opened; confirmed = c .confirmed; chain = record { reach = extended (c .chain .reach); dv = c .chain .dv; terminal = withKey p k }; stage = Idle; key = noKey }) (Accepted n p ∷ r)
+    unfolding withKey
+    completed-now k e f s = go (c .chain .reach) f (i .deputy)
+      where
+        under-dv : (root : Rights) → lastDv h r ≡ some (record { anchor = some root; name = c .chain .dv .name; rights = c .chain .dv .rights })
+            → ruleB h (Accepted n p ∷ r) ≡ some (record { anchor = root; dv = c .chain .dv .rights; terminal = p .rights })
+        under-dv root d =
+            ap (λ (x : Role). orElse (under (lastDv h r) n p x) none) e ∙ ap (λ (x : Option Dv). orElse (under x n p Terminal) none) d
+            ∙ ap (λ (b : Bool). orElse (cond b (some (record { anchor = root; dv = c .chain .dv .rights; terminal = p .rights })) none) none) s
+
+        with-root : (root : Rights) → lastDv h r ≡ some (record { anchor = some root; name = c .chain .dv .name; rights = c .chain .dv .rights })
+            → Inv h ps (record { opened = c .opened; confirmed = c .confirmed; chain = record { reach = ToTerminal root; dv = c .chain .dv; terminal = withKey p k }; stage = Idle; key = noKey }) (Accepted n p ∷ r)
+        with-root root d = accepted ps _ (sym (held-by Terminal e)) (dv-at Terminal e ∙ d) (sym (under-dv root d))
+
+        go : (x : Reach) → reachesDv x ≡ true → Below x (c .chain .dv) (lastDv h r)
+            → Inv h ps (record { opened = c .opened; confirmed = c .confirmed; chain = record { reach = extended x; dv = c .chain .dv; terminal = withKey p k }; stage = Idle; key = noKey }) (Accepted n p ∷ r)
+        go Empty z d = true-false (sym z)
+        go (ToDv root) z d = with-root root d
+        go (ToTerminal root) z d = with-root root d
+
+  announced-now : (c : Context) (k : Key) → unproven (c .stage) ≡ true → Inv h ps c r
+      → Inv h ps (record { opened = c .opened; confirmed = c .confirmed; chain = c .chain; stage = AtAnnounced; key = k }) (Announced ∷ r)
+  announced-now c k u i =
+      record { points = i .points; rights = i .rights; deputy = i .deputy; trio = i .trio; ann = refl; chal = refl; prov = refl; auth = sym (unproven-auth (c .stage) u) ∙ i .auth; run = tt }
+
+  challenged-now : (c : Context) → Told (c .stage) → Inv h ps c r → Inv h ps (at c AtChallenged) (Challenged ∷ r)
+  challenged-now c w i =
+      let a : announcement r ≡ true = sym (i .ann) ∙ w .is-told in
+      record { points = i .points; rights = i .rights; deputy = i .deputy; trio = i .trio; ann = sym a; chal = rw a; prov = sym (w .is-unproven) ∙ i .prov; auth = sym (w .is-unauth) ∙ i .auth; run = tt }
+
+  proved-now : (c : Context) → Inv h ps (at c AtChallenged) r → Inv h ps (at c AtProven) (Proved ∷ r)
+  proved-now c i =
+      let a : challenge r ≡ true = sym (i .chal) in
+      record { points = i .points; rights = i .rights; deputy = i .deputy; trio = i .trio; ann = i .ann; chal = i .chal; prov = rw a; auth = i .auth; run = tt }
+
+  disproved-now : (c : Context) → Inv h ps (at c AtChallenged) r → Inv h ps (at c AtAnnounced) (Disproved ∷ r)
+  disproved-now c i = record { points = i .points; rights = i .rights; deputy = i .deputy; trio = i .trio; ann = i .ann; chal = refl; prov = refl; auth = i .auth; run = tt }
+
+  chip-now : (c : Context) → Shown (c .stage) → Inv h ps c r → Inv h ps (at c AtChosen) (Nothing ∷ r)
+  chip-now c w i =
+      record {
+        points = i .points;
+        rights = i .rights;
+        deputy = i .deputy;
+        trio = i .trio;
+        ann = sym (w .is-told) ∙ i .ann;
+        chal = sym (w .is-dared) ∙ i .chal;
+        prov = sym (w .is-proven) ∙ i .prov;
+        auth = sym (w .is-unauth) ∙ i .auth;
+        run = tt;
+      }
+
+  authenticated-now : (c : Context) → Inv h ps (at c AtChosen) r → Inv h ps (at c AtAuthenticated) (ChipPassed ∷ r)
+  authenticated-now c i =
+      let a : ruleC r ≡ true = sym (i .prov) in
+      record { points = i .points; rights = i .rights; deputy = i .deputy; trio = i .trio; ann = i .ann; chal = i .chal; prov = i .prov; auth = rw a; run = tt }
+
+  chip-lost-now : (c : Context) → Inv h ps (at c AtChosen) r → Inv h ps (at c AtProven) (Nothing ∷ r)
+  chip-lost-now c i = record { points = i .points; rights = i .rights; deputy = i .deputy; trio = i .trio; ann = i .ann; chal = i .chal; prov = i .prov; auth = i .auth; run = tt }
+
+-- one event
+abbrev pub Agrees : Held → Token → List Fact → Type 0
+Agrees h t r = Inv h (t .points) (contextOf t) r
+
+pub keep : {h : Held} (t : Token) {r : List Fact} {a : Asked} {e : Event} {p : Point} {k : Key} → Lim t → Fits t a e p k → Agrees h t r → Agrees h (afterOf t e p k) (factAt a e ∷ r)
+unfolding afterOf resetOf choiceTaken staged stepPassed opened runClosed trialLost issuerSelected linkTaken dvTaken terminalTaken announced unblocked unblockedByPuk activated
+keep t l is-refused i = quiet i
+keep t l is-lost i = lost i
+keep t l (is-chosen {c = c} q e) i = taken (contextOf t .opened) c i
+keep t l (is-stepped {c = c} {s = s} q e f) i = stepped (contextOf t) c s f (known (contextOf t) e i)
+keep t l (is-opened {c = c} {s = s} q e f) i = open-now (contextOf t) c s f (known (contextOf t) e i)
+keep t l (is-closed {c = c} {s = s} q e) i = closed (contextOf t) c (contextOf t .opened) s (known (contextOf t) e i)
+keep t l (is-fell {c = c} {s = s} q e) i = closed (contextOf t) c (contextOf t .opened) s (known (contextOf t) e i)
+keep t l (is-selected q e) i = quiet i
+keep t {a = a} l (is-linked n q c r k) i = linked-now (contextOf t) (a .name) (a .point) (and-r (hasRights (contextOf t .confirmed)) (unproven (contextOf t .stage)) c) i n r
+keep t {a = a} l (is-deputed n q c r k h e) i = deputed-now (contextOf t) (a .name) (a .point) (and-r (hasRights (contextOf t .confirmed)) (unproven (contextOf t .stage)) c) i n (l .points) r h e
+keep t {a = a} l (is-completed n q c r h e) i = completed-now (contextOf t) (a .name) (a .point) (and-r (hasRights (contextOf t .confirmed)) (unproven (contextOf t .stage)) c) i n r h e
+keep t l (is-announced q e) i = announced-now (contextOf t) _ (and-r (hasTerminal (chainOf t)) (unproven (contextOf t .stage)) e) i
+keep t l (is-challenged q e) i = challenged-now (contextOf t) (at-told (contextOf t .stage) e) i
+keep t l (is-proven q e) i = proved-now (contextOf t) (known (contextOf t) (at-three (contextOf t .stage) e) i)
+keep t l (is-disproved q e) i = disproved-now (contextOf t) (known (contextOf t) (at-three (contextOf t .stage) e) i)
+keep t l (is-chip q e) i = chip-now (contextOf t) (at-shown (contextOf t .stage) e) i
+keep t l (is-authenticated q e) i = authenticated-now (contextOf t) (known (contextOf t) e i)
+keep t l (is-chip-lost q e) i = chip-lost-now (contextOf t) (known (contextOf t) e i)
+keep t l (not-passed q e) i = quiet i
+keep t l (is-read q) i = quiet i
+keep t l (is-changed q) i = quiet i
+keep t l (is-unblocked-puk q) i = quiet i
+keep t l (is-unblocked q) i = quiet i
+keep t l (is-activated q) i = quiet i
+keep t l (is-deactivated q) i = quiet i
+
+-- a reset, and the start
+pub reset-keeps : {h : Held} (t : Token) {r : List Fact} → Agrees h t r → Agrees h (resetOf t) (Lost ∷ r)
+unfolding resetOf
+reset-keeps t i = lost i
+
+pub start-agrees : (ps : Points) (d : Day) → Agrees (anchors ps) (startOf ps d) []
+unfolding startOf noChain
+start-agrees ps d = record { points = refl; rights = refl; deputy = tt; trio = refl; ann = refl; chal = refl; prov = refl; auth = refl; run = tt }

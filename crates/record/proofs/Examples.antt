@@ -1,0 +1,49 @@
+-- The short records, computed on both sides. Assumes nothing.
+use Rattle.certificate.specs.Body.{unread, isKey, isSignature, extThen, lastThen, firstThen, rightsThen, ownThen, keyThen, issuerThen, versionThen, wholeOf, bodyOf, signedWhole, signedOf, keyObjects, isSigned}
+use Rattle.command.specs.Form.{afterShort, afterLong, shortOf, longOf, extendedOf, bodyOf as bodyOf·Form·command, afterHeader, formOf}
+use Rattle.command.specs.Kind.{kindOf}
+use Rattle.command.specs.Shape.{headedOf, shapeOf}
+use Rattle.event.specs.Course.{settledBy, awaitsBy}
+use Rattle.event.specs.Event.{wordOf}
+use Rattle.event.specs.Settle.{endsBy, passesBy, judgedOf, awaitedOf, courseOf}
+use Rattle.fields.specs.Announce.{keyThen as keyThen·Announce·fields, auxiliaryThen, terminalThen, protocolThen, announceOf}
+use Rattle.fields.specs.Asked.{dataOf, refusing, asking, askedOf}
+use Rattle.fields.specs.Chip.{referenceIn, chipOf}
+use Rattle.fields.specs.Choice.{chosenBy, rightsThen as rightsThen·Choice·fields, passwordThen, protocolThen as protocolThen·Choice·fields, choiceOf}
+use Rattle.fields.specs.Given.{only, selecting, verifying, announcing}
+use Rattle.fields.specs.Held.{heldIn, generalOf}
+use Rattle.fields.specs.Names.{selectOf, verified, verifyOf}
+use Rattle.fields.specs.Plain.{proofOf, pinOf}
+use Rattle.fields.specs.Taking.{reading, lastly, fitted, lastOf, holds}
+use Rattle.objects.specs.Chain.{counted, taken}
+use Rattle.objects.specs.Objects.{tag2, tagOf, len1, len2, lenOf, headerOf, objectsOf, objects, object, objectsIn, foundIn}
+use Rattle.record.specs.Entries.{prescribed, after}
+use Rattle.record.specs.Rule.{readable}
+use Rattle.reply.specs.Bytes.{lengthBytes, object as object·Bytes·reply}
+use Rattle.reply.specs.Lay.{over}
+use Rattle.reply.specs.Reply.{dataOf as dataOf·Reply·reply, replyOf}
+use Rattle.session.specs.Authorization.{sharedBy, authorization}
+use Rattle.session.specs.Fits.{rootFits, dvFits, terminalFits, chainFits, groundFits, contextFits}
+use Rattle.session.specs.Moment.{momentOf}
+use Rattle.session.specs.Session.{noChain}
+use Rattle.token.specs.After.{choiceTaken, staged, stepPassed, opened, runClosed, trialLost, issuerSelected, linkTaken, dvTaken, terminalTaken, announced, unblocked, unblockedByPuk, activated, afterOf}
+use Rattle.token.specs.Certify.{selectPlan, repeats, late, underCourse, underPlan, verifyPlan}
+use Rattle.token.specs.Commands.{choosePlan, runPlan, chipPlan, generalPlan, announcePlan, readPlan, changePlan, unblockPlan, activePlan}
+use Rattle.token.specs.Limits.{inLimits}
+use Rattle.token.specs.Plan.{commandOf, timedOf, requestedOf, guarded, planOf}
+use Rattle.token.specs.State.{resetOf, startOf, noToken, madeOf}
+use Rattle.token.specs.Step.{layoutOf, replyTo, stepOf}
+use Rattle.trust.specs.Trust.{anchorFits, onePoint, twoPoints, pointsFit, knows, found, linked}
+use Rattle.values.specs.Bytes.{copiedInto}
+use Rattle.values.specs.Days.{isDate, dayFits, isDay, dated, before, later}
+use Rattle.values.specs.Keys.{isKey as isKey·Keys·values, keyOf, noKey, keyIs, keyFits, keyStands}
+use Rattle.values.specs.Names.{isName, nameOf, noName, nameFits, sameName}
+use Rattle.values.specs.Points.{noPoint, pointFits, expired, withKey}
+use Rattle.values.specs.Rights.{rightsFit, roleOf, isRights, granted, andOf, common, groupMask, readsGroup}
+use Rattle.values.specs.Words.{number}
+use mathlib.Core.Path.{refl}
+use Rattle.record.specs.Worked.{AllWorked}
+
+pub all-worked : AllWorked
+unfolding unread isKey isSignature extThen lastThen firstThen rightsThen ownThen keyThen issuerThen versionThen wholeOf bodyOf signedWhole signedOf keyObjects isSigned afterShort afterLong shortOf longOf extendedOf bodyOf·Form·command afterHeader formOf kindOf headedOf shapeOf settledBy awaitsBy wordOf endsBy passesBy judgedOf awaitedOf courseOf keyThen·Announce·fields auxiliaryThen terminalThen protocolThen announceOf dataOf refusing asking askedOf referenceIn chipOf chosenBy rightsThen·Choice·fields passwordThen protocolThen·Choice·fields choiceOf only selecting verifying announcing heldIn generalOf selectOf verified verifyOf proofOf pinOf reading lastly fitted lastOf holds counted taken tag2 tagOf len1 len2 lenOf headerOf objectsOf objects object objectsIn foundIn prescribed after readable lengthBytes object·Bytes·reply over dataOf·Reply·reply replyOf sharedBy authorization rootFits dvFits terminalFits chainFits groundFits contextFits momentOf noChain choiceTaken staged stepPassed opened runClosed trialLost issuerSelected linkTaken dvTaken terminalTaken announced unblocked unblockedByPuk activated afterOf selectPlan repeats late underCourse underPlan verifyPlan choosePlan runPlan chipPlan generalPlan announcePlan readPlan changePlan unblockPlan activePlan inLimits commandOf timedOf requestedOf guarded planOf resetOf startOf noToken madeOf layoutOf replyTo stepOf anchorFits onePoint twoPoints pointsFit knows found linked copiedInto isDate dayFits isDay dated before later isKey·Keys·values keyOf noKey keyIs keyFits keyStands isName nameOf noName nameFits sameName noPoint pointFits expired withKey rightsFit roleOf isRights granted andOf common groupMask readsGroup number
+all-worked = ((refl, refl), (refl, refl), (refl, refl), (refl, refl), (refl, refl), (refl, refl), (refl, refl), (refl, refl))

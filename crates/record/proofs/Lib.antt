@@ -1,0 +1,5 @@
+pub mod Words
+pub mod Agree
+pub mod Decide
+pub mod Ran
+pub mod Examples

@@ -1,0 +1,59 @@
+-- What is claimed of every record. Assumes nothing: these are definitions.
+use Prim.Native.Nat.{ℕ, _+_, _*_, _≤_}
+use mathlib.Core.Bool.{Bool, true, false}
+use mathlib.Core.Path.{_≡_}
+use mathlib.Core.List.{List, [], _∷_}
+use Rattle.values.specs.declared.day.Day.{Day}
+use Rattle.values.specs.declared.point.Point.{Point}
+use Rattle.values.specs.declared.word.Word.{Word}
+use Rattle.values.specs.declared.word.Word.the-variants.{Done}
+use Rattle.event.specs.declared.course.Note.the-variants.{Protected}
+use Rattle.reply.specs.Reply.{room}
+use Rattle.trust.specs.declared.Points.{Points}
+use Rattle.token.specs.declared.state.Token.{Token}
+use Rattle.token.specs.declared.state.Made.the-variants.{Accepted}
+use Rattle.token.specs.State.{madeOf}
+use Rattle.token.specs.Limits.{inLimits}
+use Rattle.record.specs.Entries.{Exchange, Entry, prescribed, reached, shown}
+use Rattle.record.specs.Rule.{Anchor, Held, factsOf, readable}
+
+-- a token as it was personalised
+abbrev pub begun : Points → Day → Token
+begun h d = madeOf h d .token
+
+-- the names and rights of the trust points of a personalisation
+abbrev pub anchorOf : Point → Anchor
+anchorOf p = record { name = p .name; rights = p .rights }
+
+abbrev pub anchors : Points → Held
+anchors h = record { newest = anchorOf (h .newest); previous = anchorOf (h .previous); two = h .two }
+
+-- "B0, P1 80+n, any P2, Le present", in the short form and in the extended one
+pub data ReadOf (n : ℕ) : List ℕ → Type 0 where
+  short : (p2 le : ℕ) → ReadOf n (0x00 ∷ 0xB0 ∷ (0x80 + n) ∷ p2 ∷ le ∷ [])
+  extended : (p2 high low : ℕ) → ReadOf n (0x00 ∷ 0xB0 ∷ (0x80 + n) ∷ p2 ∷ 0x00 ∷ high ∷ low ∷ [])
+
+-- a correct protected read of group n
+pub record ReadsNow (n : ℕ) (x : Exchange) : Type 0 where
+  pub bytes : ReadOf n (x .command)
+  pub protected : x .note ≡ Protected
+  pub roomy : room ≤ x .size
+
+-- "Group n is readable" by the record alone
+abbrev pub recordSays : Points → Day → List Entry → ℕ → Bool
+recordSays h d entries n = readable (anchors h) (factsOf (shown (begun h d) entries [])) n
+
+-- "From any accepted personalisation, after any series of commands, results and resets, a correct protected read of group n would
+-- be allowed exactly when the record alone, judged by rule (a) to (e), says so."
+pub record Decides (word : Word) (says : Bool) : Type 0 where
+  pub allowed : says ≡ true → word ≡ Done
+  pub said : word ≡ Done → says ≡ true
+
+abbrev pub Claim : Type 0
+Claim =
+    (h : Points) (d : Day) → madeOf h d .made ≡ Accepted → (entries : List Entry) (n : ℕ) → 1 ≤ n → n ≤ 21 → (x : Exchange) → ReadsNow n x
+    → Decides (prescribed (reached (begun h d) entries) x) (recordSays h d entries n)
+
+-- no state that the product itself made is outside its limits
+abbrev pub ClaimWithin : Type 0
+ClaimWithin = (h : Points) (d : Day) → madeOf h d .made ≡ Accepted → (entries : List Entry) → inLimits (reached (begun h d) entries) ≡ true

@@ -1,0 +1,334 @@
+-- "The rule that reads the record", (a) to (e), over commands' bytes and their prescribed words, newest entry first. It keeps no
+-- state, and nothing of a token stands in it. Assumes nothing: these are definitions.
+use Prim.Native.Nat.{ℕ, suc, _+_}
+use mathlib.Core.Bool.{Bool, true, false, cond, not, _&&_, _||_}
+use mathlib.Core.Option.{Option, none, some}
+use mathlib.Core.List.{List, [], _∷_}
+use lib.Dec.{eqb, leb}
+use Rattle.values.specs.Names.{sameName}
+use Rattle.values.specs.Rights.{roleOf, hasRight}
+use Rattle.values.specs.declared.name.Name.{Name}
+use Rattle.values.specs.declared.point.Point.{Point}
+use Rattle.values.specs.declared.rights.Rights.{Rights}
+use Rattle.values.specs.declared.rights.Granted.{Granted}
+use Rattle.values.specs.declared.rights.Granted.the-variants.{These, NoRights}
+use Rattle.values.specs.declared.rights.Role.{Role}
+use Rattle.values.specs.declared.rights.Role.the-variants.{Cvca, OfficialDv, OtherDv, Terminal}
+use Rattle.values.specs.declared.word.Word.{Word}
+use Rattle.values.specs.declared.word.Word.the-variants.{Done, Tries, NotPassed, Length, Lacking, Blocked, Expired, Moment, Unprotected, Broken, Data, Parameters, NotFound, Instruction, Class, Outside}
+use Rattle.event.specs.declared.run.Password.{Password}
+use Rattle.event.specs.declared.run.Choice.{Choice}
+use Rattle.event.specs.Run.{passwordOf, rightsNamed, isCan}
+use Rattle.fields.specs.declared.asked.Content.{Content}
+use Rattle.fields.specs.declared.asked.Content.the-variants.{Step, Chip}
+use Rattle.fields.specs.declared.asked.Ask.{Ask}
+use Rattle.fields.specs.declared.asked.Ask.the-variants.{Bad, Choose, General, Select, Verify, Announce, Challenge, Prove, ChooseChipKey, Read, ChangePin, Unblock, Activate, Deactivate}
+use Rattle.fields.specs.declared.asked.Request.{Request}
+use Rattle.fields.specs.declared.asked.Request.the-variants.{Refused as Faulty, Asks}
+use Rattle.fields.specs.declared.asked.Asked.{Asked}
+use Rattle.fields.specs.Asked.{askedOf}
+use Rattle.record.specs.Entries.{Shown, AtReset, Prescribed}
+
+-- ---- what the rule takes from an entry
+
+pub data Fact : Type 0 where
+  -- a choice taken, a step or a chip key passed
+  Taken : Choice → Fact
+  StepPassed ChipPassed : Fact
+  -- a certificate accepted: its issuer's name, and what it states
+  Accepted : Name → Point → Fact
+  Announced Challenged Proved : Fact
+  -- a proof that failed; a reset or a lost session; all else
+  Disproved Lost Nothing : Fact
+
+abbrev pub heldFact : Content → Fact
+heldFact (Step p) = StepPassed
+heldFact Chip = ChipPassed
+
+-- what a command did where 9000 is prescribed
+abbrev pub askFact : Asked → Ask → Fact
+askFact a Bad = Nothing
+askFact a (Choose c) = Taken c
+askFact a (General x) = heldFact x
+askFact a Select = Nothing
+askFact a Verify = Accepted (a .name) (a .point)
+askFact a Announce = Announced
+askFact a Challenge = Challenged
+askFact a Prove = Proved
+askFact a ChooseChipKey = Nothing
+askFact a (Read n) = Nothing
+askFact a ChangePin = Nothing
+askFact a Unblock = Nothing
+askFact a Activate = Nothing
+askFact a Deactivate = Nothing
+
+abbrev pub requestFact : Asked → Request → Fact
+requestFact a (Faulty w) = Nothing
+requestFact a (Asks k chained ask) = askFact a ask
+
+-- which facts are which
+abbrev pub sort : Fact → ℕ
+sort Nothing = 0
+sort Lost = 1
+sort (Taken c) = 2
+sort StepPassed = 3
+sort ChipPassed = 4
+sort (Accepted n p) = 5
+sort Announced = 6
+sort Challenged = 7
+sort Proved = 8
+sort Disproved = 9
+
+abbrev pub isLost : Fact → Bool
+isLost f = eqb (sort f) 1
+
+abbrev pub isTaken : Fact → Bool
+isTaken f = eqb (sort f) 2
+
+abbrev pub isStep : Fact → Bool
+isStep f = eqb (sort f) 3
+
+abbrev pub isChip : Fact → Bool
+isChip f = eqb (sort f) 4
+
+abbrev pub isAccepted : Fact → Bool
+isAccepted f = eqb (sort f) 5
+
+abbrev pub isAnnounced : Fact → Bool
+isAnnounced f = eqb (sort f) 6
+
+abbrev pub isChallenged : Fact → Bool
+isChallenged f = eqb (sort f) 7
+
+abbrev pub isProved : Fact → Bool
+isProved f = eqb (sort f) 8
+
+abbrev pub isDisproved : Fact → Bool
+isDisproved f = eqb (sort f) 9
+
+abbrev pub only : (Fact → Bool) → Fact → Fact
+only p f = cond (p f) f Nothing
+
+-- "'Accepted', 'passed' and 'taken' mean that demand 2's definition prescribes 9000 there (for a choice also 63CX);
+-- announcements and challenges count likewise; 'failed' is 6300; 'lost' is 6987 or 6988"
+abbrev pub factBy : Word → Fact → Fact
+factBy Done f = f
+factBy (Tries left) f = only isTaken f
+factBy NotPassed f = cond (isProved f) Disproved Nothing
+factBy Unprotected f = Lost
+factBy Broken f = Lost
+factBy Length f = Nothing
+factBy Lacking f = Nothing
+factBy Blocked f = Nothing
+factBy Expired f = Nothing
+factBy Moment f = Nothing
+factBy Data f = Nothing
+factBy Parameters f = Nothing
+factBy NotFound f = Nothing
+factBy Instruction f = Nothing
+factBy Class f = Nothing
+factBy Outside f = Nothing
+
+abbrev pub factOf : Shown → Fact
+factOf AtReset = Lost
+factOf (Prescribed s w) = factBy w (requestFact (askedOf s) (askedOf s .request))
+
+abbrev pub factsOf : List Shown → List Fact
+factsOf [] = []
+factsOf (x ∷ past) = factOf x ∷ factsOf past
+
+-- ---- "the last ..", "since .."
+
+abbrev pub orElse : {A : Type 0} → Option A → Option A → Option A
+orElse none y = y
+orElse (some x) y = some x
+
+-- the newest fact that counts, judged with what came before it, and no fact after it that undoes it
+abbrev pub latest : {A : Type 0} → (Fact → List Fact → Option A) → (Fact → Bool) → List Fact → Option A
+latest counts undoes [] = none
+latest counts undoes (f ∷ past) = orElse (counts f past) (cond (undoes f) none (latest counts undoes past))
+
+-- there is a fact that counts, and no fact after it that undoes it
+abbrev pub standing : (Fact → List Fact → Bool) → (Fact → Bool) → List Fact → Bool
+standing counts undoes [] = false
+standing counts undoes (f ∷ past) = counts f past || (not (undoes f) && standing counts undoes past)
+
+-- ---- the trust points held, replayed from the personalisation through the accepted links
+
+pub record Anchor : Type 0 where
+  pub name : Name
+  pub rights : Rights
+
+pub record Held : Type 0 where
+  pub newest : Anchor
+  pub previous : Anchor
+  pub two : Bool
+
+-- "a link becomes newest, newest becomes previous"
+abbrev pub linkedBy : Held → Point → Role → Held
+linkedBy h p Cvca = record { newest = record { name = p .name; rights = p .rights }; previous = h .newest; two = true }
+linkedBy h p OfficialDv = h
+linkedBy h p OtherDv = h
+linkedBy h p Terminal = h
+
+abbrev pub heldAfter : Held → Fact → Held
+heldAfter h (Accepted n p) = linkedBy h p (roleOf (p .rights))
+heldAfter h (Taken c) = h
+heldAfter h StepPassed = h
+heldAfter h ChipPassed = h
+heldAfter h Announced = h
+heldAfter h Challenged = h
+heldAfter h Proved = h
+heldAfter h Disproved = h
+heldAfter h Lost = h
+heldAfter h Nothing = h
+
+abbrev pub held : Held → List Fact → Held
+held start [] = start
+held start (f ∷ past) = heldAfter (held start past) f
+
+-- the rights of the trust point of that name
+abbrev pub rightsIn : Held → Name → Option Rights
+rightsIn h n =
+    cond (sameName n (h .newest .name)) (some (h .newest .rights))
+    (cond (h .two && sameName n (h .previous .name)) (some (h .previous .rights)) none)
+
+-- ---- (a) "the last password choice taken since the last reset or lost session is a PIN or CAN naming rights, and its four steps
+-- passed"
+
+-- a new choice, a reset or a loss ends all that went before
+abbrev pub ends : Fact → Bool
+ends f = isTaken f || isLost f
+
+abbrev pub choiceIn : Fact → Option Choice
+choiceIn (Taken c) = some c
+choiceIn StepPassed = none
+choiceIn ChipPassed = none
+choiceIn (Accepted n p) = none
+choiceIn Announced = none
+choiceIn Challenged = none
+choiceIn Proved = none
+choiceIn Disproved = none
+choiceIn Lost = none
+choiceIn Nothing = none
+
+abbrev pub lastChoice : List Fact → Option Choice
+lastChoice r = latest (λ f past. choiceIn f) isLost r
+
+-- the steps passed since
+abbrev pub steps : List Fact → ℕ
+steps [] = 0
+steps (f ∷ past) = cond (ends f) 0 (cond (isStep f) (suc (steps past)) (steps past))
+
+-- only the PIN and the CAN can name rights
+abbrev pub naming : Password → Granted → Option (Password × Rights)
+naming w NoRights = none
+naming w (These r) = some (w, r)
+
+abbrev pub named : Option Choice → Option (Password × Rights)
+named none = none
+named (some c) = naming (passwordOf c) (rightsNamed c)
+
+abbrev pub ruleA : List Fact → Option (Password × Rights)
+ruleA r = cond (leb 4 (steps r)) (named (lastChoice r)) none
+
+-- ---- (b) "after it a DV, the latest, was accepted under a trust point, then a terminal under that DV, no certificate accepted
+-- later"
+
+-- a DV: the rights of its trust point as held then, its name and its rights
+pub record Dv : Type 0 where
+  pub anchor : Option Rights
+  pub name : Name
+  pub rights : Rights
+
+pub record Trio : Type 0 where
+  pub anchor : Rights
+  pub dv : Rights
+  pub terminal : Rights
+
+abbrev pub dvBy : Held → Name → Point → Role → Option Dv
+dvBy h n p Cvca = none
+dvBy h n p OfficialDv = some (record { anchor = rightsIn h n; name = p .name; rights = p .rights })
+dvBy h n p OtherDv = some (record { anchor = rightsIn h n; name = p .name; rights = p .rights })
+dvBy h n p Terminal = none
+
+abbrev pub dvIn : Held → Fact → Option Dv
+dvIn h (Accepted n p) = dvBy h n p (roleOf (p .rights))
+dvIn h (Taken c) = none
+dvIn h StepPassed = none
+dvIn h ChipPassed = none
+dvIn h Announced = none
+dvIn h Challenged = none
+dvIn h Proved = none
+dvIn h Disproved = none
+dvIn h Lost = none
+dvIn h Nothing = none
+
+abbrev pub lastDv : Held → List Fact → Option Dv
+lastDv start r = latest (λ f past. dvIn (held start past) f) ends r
+
+abbrev pub trio : Option Rights → Rights → Rights → Option Trio
+trio none d t = none
+trio (some x) d t = some (record { anchor = x; dv = d; terminal = t })
+
+abbrev pub under : Option Dv → Name → Point → Role → Option Trio
+under d n p Cvca = none
+under d n p OfficialDv = none
+under d n p OtherDv = none
+under none n p Terminal = none
+under (some d) n p Terminal = cond (sameName n (d .name)) (trio (d .anchor) (d .rights) (p .rights)) none
+
+abbrev pub terminalIn : Option Dv → Fact → Option Trio
+terminalIn d (Accepted n p) = under d n p (roleOf (p .rights))
+terminalIn d (Taken c) = none
+terminalIn d StepPassed = none
+terminalIn d ChipPassed = none
+terminalIn d Announced = none
+terminalIn d Challenged = none
+terminalIn d Proved = none
+terminalIn d Disproved = none
+terminalIn d Lost = none
+terminalIn d Nothing = none
+
+-- a certificate accepted later ends it too
+abbrev pub endsChain : Fact → Bool
+endsChain f = ends f || isAccepted f
+
+abbrev pub ruleB : Held → List Fact → Option Trio
+ruleB start r = latest (λ f past. terminalIn (lastDv start past) f) endsChain r
+
+-- ---- (c) "then an announcement, a later challenge, and a passed proof, with no announcement or failed proof after that challenge"
+
+abbrev pub announcement : List Fact → Bool
+announcement r = standing (λ f past. isAnnounced f) endsChain r
+
+abbrev pub endsChallenge : Fact → Bool
+endsChallenge f = endsChain f || isAnnounced f || isDisproved f
+
+abbrev pub challenge : List Fact → Bool
+challenge r = standing (λ f past. isChallenged f && announcement past) endsChallenge r
+
+abbrev pub ruleC : List Fact → Bool
+ruleC r = standing (λ f past. isProved f && challenge past) endsChallenge r
+
+-- ---- (d) "then a chip key passed with the announced key, nothing lost since"
+
+abbrev pub ruleD : List Fact → Bool
+ruleD r = standing (λ f past. isChip f && ruleC past) ends r
+
+-- ---- (e) "the bits agree as above, the trust point's as held at (b)": in all four, and with the CAN bit 4 too
+
+abbrev pub inAll : Trio → Rights → ℕ → Bool
+inAll t x i = hasRight i (t .anchor) && hasRight i (t .dv) && hasRight i (t .terminal) && hasRight i x
+
+abbrev pub agrees : Password → Rights → Trio → ℕ → Bool
+agrees w x t i = (not (isCan w) || inAll t x 4) && inAll t x i
+
+abbrev pub ruleE : Option (Password × Rights) → Option Trio → ℕ → Bool
+ruleE none t n = false
+ruleE (some c) none n = false
+ruleE (some c) (some t) n = agrees (c .0) (c .1) t (7 + n)
+
+-- "Group n is readable when": (a) to (e)
+unfoldable pub readable : Held → List Fact → ℕ → Bool
+readable start r n = ruleC r && ruleD r && ruleE (ruleA r) (ruleB start r) n

@@ -1,0 +1,1 @@
+// The record decides: definitions and the theorem. There is no code here.

@@ -1,0 +1,5 @@
+pub mod Laying
+pub mod Pieces
+pub mod Answers
+pub mod Examples
+pub mod Pinned

@@ -1,0 +1,59 @@
+-- The bytes of a reply. Assumes nothing: these are definitions.
+use Prim.Native.Nat.{ℕ}
+use mathlib.Core.Bool.{Bool, true, false, cond}
+use mathlib.Core.List.{List, [], _++_}
+use lib.Dec.{ltb}
+use lib.ListN.{length, take, drop}
+use Rattle.values.specs.Bytes.{longest}
+use Rattle.values.specs.Names.{nameBytes}
+use Rattle.values.specs.declared.name.Name.{Name}
+use Rattle.reply.specs.Bytes.{wordBytes, object}
+use Rattle.reply.specs.declared.Layout.{Layout}
+use Rattle.reply.specs.declared.Layout.the-variants.{Silent, Bare, Flat, Nest, Confirmed, Pair}
+
+-- "reply buffer under 258 bytes"
+abbrev pub room : ℕ
+room = 258
+
+-- no job's first string is longer
+abbrev pub string : ℕ
+string = longest
+
+-- the nonce's bytes in the chip key's "nonce and token together (16)"
+abbrev pub nonce : ℕ
+nonce = 8
+
+-- "87 newest trust point name, 88 the previous if held"
+abbrev pub pointNames : Name → Name → Bool → List ℕ
+pointNames newest previous two = object 0x87 (nameBytes newest) ++ cond two (object 0x88 (nameBytes previous)) []
+
+-- the chip key's "81, 82": the nonce, then the token
+abbrev pub nonceToken : List ℕ → List ℕ
+nonceToken first = object 0x81 (take nonce first) ++ object 0x82 (drop nonce first)
+
+-- the data: "Refusals have no data"; a challenge's is "eight bytes"; "Reply 7C holding 80, 82, 84 (1 to 140 bytes), 86 (8): the
+-- first string. The fourth adds" the names; the chip key: "Reply 7C holding 81, 82"
+unfoldable pub dataOf : Layout → List ℕ → Name → Name → Bool → List ℕ
+dataOf Silent first newest previous two = []
+dataOf Bare first newest previous two = []
+dataOf Flat first newest previous two = first
+dataOf (Nest tag) first newest previous two = object 0x7C (object tag first)
+dataOf Confirmed first newest previous two = object 0x7C (object 0x86 first ++ pointNames newest previous two)
+dataOf Pair first newest previous two = object 0x7C (nonceToken first)
+
+-- whether the word is kept back, too
+abbrev pub silent : Layout → Bool
+silent Silent = true
+silent Bare = false
+silent Flat = false
+silent (Nest tag) = false
+silent Confirmed = false
+silent Pair = false
+
+-- 6F00: "nothing written, length 0". "All others write their data, then the two word bytes". `size` is the buffer's
+unfoldable pub replyOf : ℕ → Layout → ℕ → List ℕ → Name → Name → Bool → List ℕ
+replyOf size layout word first newest previous two =
+    cond (ltb size room) []
+    (cond (ltb string (length first)) []
+    (cond (silent layout) []
+    (dataOf layout first newest previous two ++ wordBytes word)))

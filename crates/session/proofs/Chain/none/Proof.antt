@@ -1,0 +1,13 @@
+-- `session::Chain::none` meets its contract. Assumes nothing.
+use borrow.Author.Needs.{needs}
+use Rattle.session.proofs.Parts.{parts}
+use Rattle.session.proofs.Chain.none.Statement.{statement}
+use Rattle.session.proofs.Chain.none.Tie as tie
+
+pub none-spec : {M : Type 1} → statement M
+none-spec =
+    tie.close
+    (tie.spec
+    (λ c κs. search needs)
+    (λ c κs. search needs)
+    (λ c. search parts))

@@ -1,0 +1,4 @@
+pub mod Session
+pub mod Moment
+pub mod Fits
+pub mod Authorization

@@ -1,0 +1,104 @@
+-- Each event's change, over plain values. Assumes nothing.
+use borrow.Author.Needs.{needs}
+use Prim.Native.Nat.{ℕ, _-_}
+use mathlib.Core.Bool.{Bool, true, false, cond}
+use mathlib.Core.Path.{_≡_, refl, sym, ap, _∙_}
+use Rattle.values.specs.Days.{later}
+use Rattle.values.specs.Rights.{roleOf, isOfficial}
+use Rattle.values.specs.Points.{noPoint}
+use Rattle.values.specs.declared.day.Day.{Day}
+use Rattle.values.specs.declared.key.Key.{Key}
+use Rattle.values.specs.declared.point.Point.{Point}
+use Rattle.values.specs.declared.rights.Rights.{Rights}
+use Rattle.values.specs.declared.rights.Role.{Role}
+use Rattle.values.specs.declared.rights.Granted.{Granted}
+use Rattle.values.specs.declared.rights.Granted.the-variants.{NoRights}
+use Rattle.event.specs.declared.run.Choice.{Choice}
+use Rattle.event.specs.declared.run.Password.{Password}
+use Rattle.event.specs.declared.run.Step.{Step}
+use Rattle.event.specs.declared.run.Step.the-variants.{Nonce}
+use Rattle.event.specs.Run.{passwordOf, rightsNamed, isPin, nextStep}
+use Rattle.event.specs.declared.happening.Issuer.{Issuer}
+use Rattle.event.specs.declared.happening.Event.{Event}
+use Rattle.trust.specs.Trust.{linked}
+use Rattle.trust.specs.declared.Points.{Points}
+use Rattle.session.specs.declared.Opened.the-variants.{By}
+use Rattle.session.specs.declared.Reach.{Reach}
+use Rattle.session.specs.declared.Reach.the-variants.{ToDv}
+use Rattle.session.specs.declared.Chain.{Chain}
+use Rattle.session.specs.declared.Stage.{Stage}
+use Rattle.session.specs.declared.Stage.the-variants.{Idle, Run}
+use Rattle.session.specs.declared.Session.{Session}
+use Rattle.session.specs.Session.{noChain, bareSession, atStage, announcedWith, chainedTo, selecting}
+use Rattle.token.specs.declared.state.Token.{Token}
+use Rattle.token.specs.State.{tries, withSession, withPin, withPuk, withActive, withToday, withPoints}
+use Rattle.token.specs.After.{choiceTaken, staged, stepPassed, triesAfter, opened, runClosed, trialLost, issuerSelected, linkTaken, dvTaken, extended, todayAfter, terminalTaken, announced, unblocked, unblockedByPuk, activated, afterOf}
+
+pub extended-arm : (x d r : Reach) → x ≡ d → r ≡ extended d → r ≡ extended x
+extended-arm x d r e z = z ∙ ap extended (sym e)
+
+module _ (dv p : Point) (today : Day) (r : Role) (b : Bool) (e : r ≡ roleOf (dv .rights)) (f : b ≡ isOfficial r) where
+  pub day-moves : (d : Day) → b ≡ true → d ≡ later today (p .first) → d ≡ todayAfter dv p today
+  day-moves d h z = rw (← e, ← f, h) z
+
+  pub day-stays : b ≡ false → today ≡ todayAfter dv p today
+  day-stays h = rw (← e, ← f, h)
+
+module _ (t : Token) where
+  pub choice-is : (c : Choice) (z : Session) → z ≡ bareSession (t .session .context .opened) NoRights (Run c Nonce) → withSession t z ≡ choiceTaken t c
+  unfolding choiceTaken
+  choice-is c z e = rw e
+
+  pub staged-is : (s : Stage) (z : Session) → z ≡ atStage (t .session) s → withSession t z ≡ staged t s
+  unfolding staged
+  staged-is s z e = rw e
+
+  pub step-is : (c : Choice) (p q : Step) (r : Token) → q ≡ nextStep p → r ≡ staged t (Run c q) → r ≡ stepPassed t c p
+  unfolding stepPassed
+  step-is c p q r e z = z ∙ ap (λ (x : Step). staged t (Run c x)) e
+
+  pub opened-is : (c : Choice) (w : Password) (g : Granted) (n : ℕ) (z : Session) → w ≡ passwordOf c → g ≡ rightsNamed c → n ≡ triesAfter c (t .pin)
+      → z ≡ bareSession (By w) g Idle → withPin (withSession t z) n ≡ opened t c
+  unfolding opened
+  opened-is c w g n z e f h i = rw (i, e, f, h)
+
+  pub closed-is : (z : Session) → z ≡ bareSession (t .session .context .opened) NoRights Idle → withSession t z ≡ runClosed t
+  unfolding runClosed
+  closed-is z e = rw e
+
+  pub lost-is : (u : Token) (left : ℕ) → u ≡ runClosed t → withPin u left ≡ trialLost t left
+  unfolding trialLost
+  lost-is u left e = rw e
+
+  pub selected-is : (i : Issuer) (z : Session) → z ≡ selecting (t .session) i → withSession t z ≡ issuerSelected t i
+  unfolding issuerSelected
+  selected-is i z e = rw e
+
+  pub link-is : (p : Point) (h : Points) (c : Chain) (z : Session) (d : Day) → h ≡ linked (t .points) p → c ≡ noChain → z ≡ chainedTo (t .session) c → d ≡ later (t .today) (p .first)
+      → withToday (withSession (withPoints t h) z) d ≡ linkTaken t p
+  unfolding linkTaken
+  link-is p h c z d e f g i = rw (g, e, f, i)
+
+  pub dv-is : (p : Point) (root : Rights) (n : Point) (z : Session) (d : Day) → n ≡ noPoint → z ≡ chainedTo (t .session) (record { reach = ToDv root; dv = p; terminal = n })
+      → d ≡ later (t .today) (p .first) → withToday (withSession t z) d ≡ dvTaken t p root
+  unfolding dvTaken
+  dv-is p root n z d e f g = rw (f, e, g)
+
+  pub terminal-is : (p : Point) (r : Reach) (z : Session) (d : Day) → r ≡ extended (t .session .context .chain .reach)
+      → z ≡ chainedTo (t .session) (record { reach = r; dv = t .session .context .chain .dv; terminal = p }) → d ≡ todayAfter (t .session .context .chain .dv) p (t .today)
+      → withToday (withSession t z) d ≡ terminalTaken t p
+  unfolding terminalTaken
+  terminal-is p r z d e f g = rw (f, e, g)
+
+  pub announced-is : (k : Key) (z : Session) → z ≡ announcedWith (t .session) k → withSession t z ≡ announced t k
+  unfolding announced
+  announced-is k z e = rw e
+
+  pub by-puk-is : (n : ℕ) → n ≡ t .puk - 1 → withPuk (withPin t tries) n ≡ unblockedByPuk t
+  unfolding unblockedByPuk
+  by-puk-is n e = rw e
+
+  pub after-arm : (p : Point) (k : Key) (x d : Event) (r : Token) → x ≡ d → r ≡ afterOf t d p k → r ≡ afterOf t x p k
+  after-arm p k x d r e z = z ∙ ap (λ (y : Event). afterOf t y p k) (sym e)
+
+pub ruleset changes = (extended-arm, day-moves, day-stays, choice-is, staged-is, step-is, opened-is, closed-is, lost-is, selected-is, link-is, dv-is, terminal-is, announced-is, by-puk-is, needs)

@@ -1,0 +1,17 @@
+-- `token::state::Token::choose` meets its contract. Assumes nothing.
+use borrow.Author.Needs.{needs}
+use Rattle.token.proofs.Checks.{checks}
+use Rattle.token.proofs.state.Token.choose.Statement.{statement}
+use Rattle.token.proofs.state.Token.choose.Tie as tie
+
+pub choose-spec : {M : Type 1} → statement M
+choose-spec =
+    tie.close
+    (tie.spec
+    (λ c κs. search needs)
+    (λ c κs. search needs)
+    (λ c κs. search needs)
+    (λ c κs. search needs)
+    (λ c κs. search needs)
+    (λ c κs. search needs)
+    (λ c. search checks depth 8))

@@ -1,0 +1,14 @@
+-- `token::state::Token::repeats` meets its contract. Assumes nothing.
+use borrow.Author.Needs.{needs}
+use Rattle.token.proofs.Checks.{checks}
+use Rattle.token.proofs.state.Token.repeats.Statement.{statement}
+use Rattle.token.proofs.state.Token.repeats.Tie as tie
+
+pub repeats-spec : {M : Type 1} → statement M
+repeats-spec =
+    tie.close
+    (tie.spec
+    (λ c κs. search needs)
+    (λ c κs. search needs)
+    (λ c κs. search needs)
+    (λ c. search checks depth 8))

@@ -1,0 +1,13 @@
+-- `token::state::Token::under` meets its contract. Assumes nothing.
+use borrow.Author.Needs.{needs}
+use Rattle.token.proofs.Checks.{checks}
+use Rattle.token.proofs.state.Token.under.Statement.{statement}
+use Rattle.token.proofs.state.Token.under.Tie as tie
+
+pub under-spec : {M : Type 1} → statement M
+under-spec =
+    tie.close
+    (tie.spec
+    (λ c κs. search needs)
+    (λ c κs. search needs)
+    (λ c. search checks depth 8))

@@ -1,0 +1,18 @@
+-- `token::state::Token::verify` meets its contract. Assumes nothing.
+use borrow.Author.Needs.{needs}
+use Rattle.token.proofs.Checks.{verify-arm}
+use Rattle.token.specs.Certify.{verifyPlan}
+use Rattle.token.proofs.state.Token.verify.Statement.{statement}
+use Rattle.token.proofs.state.Token.verify.Tie as tie
+
+pub verify-spec : {M : Type 1} → statement M
+unfolding verifyPlan
+verify-spec =
+    tie.close
+    (tie.spec
+    (λ c. search needs)
+    (λ c κs. search needs)
+    (λ c. search needs)
+    (λ c κs. search needs)
+    (λ c. search verify-arm depth 6)
+    (λ c. search verify-arm depth 6))

@@ -1,0 +1,64 @@
+-- `token::step::layout_of` meets its contract. Assumes nothing.
+use borrow.Author.Needs.{needs}
+use Rattle.token.proofs.Ends.{layout-arm}
+use Rattle.token.specs.Step.{layoutOf}
+use Rattle.token.proofs.step.layout_of.Statement.{statement}
+use Rattle.token.proofs.step.layout_of.Tie as tie
+
+pub layout-of-spec : {M : Type 1} → statement M
+unfolding layoutOf
+layout-of-spec =
+    tie.close
+    (tie.spec
+    (λ c. search needs)
+    (λ c κs. search needs)
+    (λ c. search needs)
+    (λ c κs. search needs)
+    (λ c. search needs)
+    (λ c. search needs)
+    (λ c. search needs)
+    (λ c. search needs)
+    (λ c. search needs)
+    (λ c. search needs)
+    (λ c. search needs)
+    (λ c. search needs)
+    (λ c. search needs)
+    (λ c. search needs)
+    (λ c. search needs)
+    (λ c. search needs)
+    (λ c. search needs)
+    (λ c. search needs)
+    (λ c. search needs)
+    (λ c. search needs)
+    (λ c. search needs)
+    (λ c. search needs)
+    (λ c. search needs)
+    (λ c. search needs)
+    (λ c. search needs)
+    (λ c. search needs)
+    (λ c. search needs)
+    (λ c. search layout-arm)
+    (λ c. search layout-arm)
+    (λ c. search layout-arm)
+    (λ c. search layout-arm)
+    (λ c. search layout-arm)
+    (λ c. search layout-arm)
+    (λ c. search layout-arm)
+    (λ c. search layout-arm)
+    (λ c. search layout-arm)
+    (λ c. search layout-arm)
+    (λ c. search layout-arm)
+    (λ c. search layout-arm)
+    (λ c. search layout-arm)
+    (λ c. search layout-arm)
+    (λ c. search layout-arm)
+    (λ c. search layout-arm)
+    (λ c. search layout-arm)
+    (λ c. search layout-arm)
+    (λ c. search layout-arm)
+    (λ c. search layout-arm)
+    (λ c. search layout-arm)
+    (λ c. search layout-arm)
+    (λ c. search layout-arm)
+    (λ c. search layout-arm)
+    (λ c. search layout-arm))

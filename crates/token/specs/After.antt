@@ -1,0 +1,124 @@
+-- The token after each event: every state change of the product. Assumes nothing: these are definitions.
+use Prim.Native.Nat.{ℕ, _-_}
+use mathlib.Core.Bool.{Bool, true, false, cond}
+use Rattle.values.specs.Days.{later}
+use Rattle.values.specs.Rights.{roleOf, isOfficial}
+use Rattle.values.specs.Points.{noPoint}
+use Rattle.values.specs.declared.day.Day.{Day}
+use Rattle.values.specs.declared.key.Key.{Key}
+use Rattle.values.specs.declared.point.Point.{Point}
+use Rattle.values.specs.declared.rights.Rights.{Rights}
+use Rattle.values.specs.declared.rights.Granted.the-variants.{NoRights}
+use Rattle.event.specs.declared.run.Choice.{Choice}
+use Rattle.event.specs.declared.run.Step.{Step}
+use Rattle.event.specs.declared.run.Step.the-variants.{Nonce}
+use Rattle.event.specs.Run.{passwordOf, rightsNamed, isPin, nextStep}
+use Rattle.event.specs.declared.happening.Issuer.{Issuer}
+use Rattle.event.specs.declared.happening.Event.{Event}
+use Rattle.event.specs.declared.happening.Event.the-variants.{Refused, Lost, Chosen, StepPassed, Opened as IsOpened, RunClosed, TrialLost, Selected, LinkTaken, DvTaken, TerminalTaken, Announced as IsAnnounced, Challenged as IsChallenged, Proven as IsProven, ProofLost, ChipKeyChosen as IsChosen, Authenticated as IsAuthenticated, ChipLost, ReadAllowed, PinChanged, UnblockedByPuk, UnblockedByRight, Activated, Deactivated, NotPassed}
+use Rattle.trust.specs.Trust.{linked}
+use Rattle.session.specs.declared.Opened.the-variants.{By}
+use Rattle.session.specs.declared.Reach.{Reach}
+use Rattle.session.specs.declared.Reach.the-variants.{Empty, ToDv, ToTerminal}
+use Rattle.session.specs.declared.Chain.{Chain}
+use Rattle.session.specs.declared.Stage.{Stage}
+use Rattle.session.specs.declared.Stage.the-variants.{Idle, Run, Announced, Challenged, Proven, ChipKeyChosen, Authenticated}
+use Rattle.session.specs.Session.{noChain, bareSession, atStage, announcedWith, chainedTo, selecting}
+use Rattle.token.specs.declared.state.Token.{Token}
+use Rattle.token.specs.State.{tries, withSession, withPin, withPuk, withActive, withToday, withPoints, resetOf}
+
+-- "opens a run and drops confirmed rights, chain, selection and stage, but not which password opened the session"
+unfoldable pub choiceTaken : Token → Choice → Token
+choiceTaken t c = withSession t (bareSession (t .session .context .opened) NoRights (Run c Nonce))
+
+unfoldable pub staged : Token → Stage → Token
+staged t s = withSession t (atStage (t .session) s)
+
+unfoldable pub stepPassed : Token → Choice → Step → Token
+stepPassed t c p = staged t (Run c (nextStep p))
+
+-- "with the PIN also counter to 3"
+abbrev pub triesAfter : Choice → ℕ → ℕ
+triesAfter c pin = cond (isPin (passwordOf c)) tries pin
+
+-- "passed opens the session afresh with that password and its rights"
+unfoldable pub opened : Token → Choice → Token
+opened t c = withPin (withSession t (bareSession (By (passwordOf c)) (rightsNamed c) Idle)) (triesAfter c (t .pin))
+
+-- "An old session stays open without rights"
+unfoldable pub runClosed : Token → Token
+runClosed t = withSession t (bareSession (t .session .context .opened) NoRights Idle)
+
+-- "otherwise PIN counter down one .., run closed"
+unfoldable pub trialLost : Token → ℕ → Token
+trialLost t left = withPin (runClosed t) left
+
+unfoldable pub issuerSelected : Token → Issuer → Token
+issuerSelected t i = withSession t (selecting (t .session) i)
+
+-- "a link becomes newest, newest becomes previous, chain empty"; "Today becomes the first day if later"
+unfoldable pub linkTaken : Token → Point → Token
+linkTaken t p = withToday (withSession (withPoints t (linked (t .points) p)) (chainedTo (t .session) noChain)) (later (t .today) (p .first))
+
+-- "a DV replaces the chain"
+unfoldable pub dvTaken : Token → Point → Rights → Token
+dvTaken t p root = withToday (withSession t (chainedTo (t .session) (record { reach = ToDv root; dv = p; terminal = noPoint }))) (later (t .today) (p .first))
+
+abbrev pub extended : Reach → Reach
+extended Empty = Empty
+extended (ToDv root) = ToTerminal root
+extended (ToTerminal root) = ToTerminal root
+
+-- "for links, DVs and terminals of a domestic official DV"
+abbrev pub todayAfter : Point → Point → Day → Day
+todayAfter dv terminal today = cond (isOfficial (roleOf (dv .rights))) (later today (terminal .first)) today
+
+-- "a terminal its terminal"
+unfoldable pub terminalTaken : Token → Point → Token
+terminalTaken t p =
+    withToday
+    (withSession t (chainedTo (t .session) (record { reach = extended (t .session .context .chain .reach); dv = t .session .context .chain .dv; terminal = p })))
+    (todayAfter (t .session .context .chain .dv) p (t .today))
+
+unfoldable pub announced : Token → Key → Token
+announced t k = withSession t (announcedWith (t .session) k)
+
+-- "Counter becomes 3", "takes one use"
+unfoldable pub unblocked : Token → Token
+unblocked t = withPin t tries
+
+unfoldable pub unblockedByPuk : Token → Token
+unblockedByPuk t = withPuk (withPin t tries) (t .puk - 1)
+
+unfoldable pub activated : Token → Bool → Token
+activated t b = withActive t b
+
+unfoldable pub afterOf : Token → Event → Point → Key → Token
+afterOf t (Refused w) p k = t
+afterOf t (Lost l) p k = resetOf t
+afterOf t (Chosen c left) p k = choiceTaken t c
+afterOf t (StepPassed c s) p k = stepPassed t c s
+afterOf t (IsOpened c) p k = opened t c
+afterOf t RunClosed p k = runClosed t
+afterOf t (TrialLost left) p k = trialLost t left
+afterOf t (Selected i) p k = issuerSelected t i
+afterOf t LinkTaken p k = linkTaken t p
+afterOf t (DvTaken root) p k = dvTaken t p root
+afterOf t TerminalTaken p k = terminalTaken t p
+afterOf t IsAnnounced p k = announced t k
+afterOf t IsChallenged p k = staged t Challenged
+afterOf t IsProven p k = staged t Proven
+-- "Not passed: 6300, back to announced"
+afterOf t ProofLost p k = staged t Announced
+afterOf t IsChosen p k = staged t ChipKeyChosen
+afterOf t IsAuthenticated p k = staged t Authenticated
+-- "Failure: 6300, back to proven"
+afterOf t ChipLost p k = staged t Proven
+afterOf t ReadAllowed p k = t
+afterOf t PinChanged p k = t
+afterOf t UnblockedByPuk p k = unblockedByPuk t
+afterOf t UnblockedByRight p k = unblocked t
+afterOf t Activated p k = activated t true
+afterOf t Deactivated p k = activated t false
+-- "Not passed: 6300, nothing changes", "same state"
+afterOf t NotPassed p k = t

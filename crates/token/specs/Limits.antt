@@ -1,0 +1,32 @@
+-- "A state is outside its limits exactly when ..". Assumes nothing: these are definitions.
+use mathlib.Core.Bool.{Bool, true, not, _&&_}
+use lib.Dec.{leb}
+use Rattle.values.specs.Days.{dayFits}
+use Rattle.trust.specs.Trust.{pointsFit, knows}
+use Rattle.event.specs.declared.happening.Issuer.the-variants.{Newest, Previous, Dv}
+use Rattle.session.specs.declared.Selected.{Selected}
+use Rattle.session.specs.declared.Selected.the-variants.{NoIssuer, Of}
+use Rattle.session.specs.Session.{hasDv}
+use Rattle.session.specs.Fits.{contextFits}
+use Rattle.token.specs.declared.state.Token.{Token}
+use Rattle.token.specs.State.{tries, uses}
+
+-- "Selectable: trust points and the chain's DV"
+abbrev pub selectable : Selected → Bool → Bool → Bool
+selectable NoIssuer two dv = true
+selectable (Of Newest) two dv = true
+selectable (Of Previous) two dv = two
+selectable (Of Dv) two dv = dv
+
+-- "a counter, name, date, rights value or stored length breaks this paper, two names among trust points and chain DV are equal,
+-- the selection is not selectable, a PIN run stands at counter 0, confirmed rights stand outside a session opened by PIN or CAN,
+-- a chain or a stage from announced on lacks them, or such a stage lacks its terminal or announced key"
+unfoldable pub inLimits : Token → Bool
+inLimits t =
+    leb (t .pin) tries
+    && leb (t .puk) uses
+    && dayFits (t .today)
+    && pointsFit (t .points)
+    && contextFits (t .session .context) (t .pin)
+    && not (hasDv (t .session .context .chain) && knows (t .points) (t .session .context .chain .dv .name))
+    && selectable (t .session .selected) (t .points .two) (hasDv (t .session .context .chain))

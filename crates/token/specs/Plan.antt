@@ -1,0 +1,66 @@
+-- "Order: 6F00; protection; command form; CLA; INS; P1-P2; presence of data and Le (6700); moment; data (6A80, wrong length too);
+-- 6982; 6A88; 6983; 6984; verdict." Assumes nothing: these are definitions.
+use mathlib.Core.Bool.{Bool, cond, not}
+use mathlib.Core.List.{List}
+use Prim.Native.Nat.{ℕ}
+use Rattle.command.specs.declared.kind.Kind.{Kind}
+use Rattle.event.specs.declared.happening.Refusal.the-variants.{Moment, Data, Outside}
+use Rattle.event.specs.declared.happening.Event.the-variants.{Refused, Lost, Challenged, Proven, ProofLost, ChipKeyChosen, Activated, Deactivated, NotPassed}
+use Rattle.event.specs.declared.course.Note.{Note}
+use Rattle.event.specs.declared.course.Guard.{Guard}
+use Rattle.event.specs.declared.course.Guard.the-variants.{Passes, Drops}
+use Rattle.event.specs.declared.course.Job.the-variants.{Challenge as ChallengeJob, Proof}
+use Rattle.event.specs.declared.course.Plan.{Plan}
+use Rattle.event.specs.Course.{settledBy, awaitsBy, guardOf}
+use Rattle.fields.specs.declared.asked.Ask.{Ask}
+use Rattle.fields.specs.declared.asked.Ask.the-variants.{Bad, Choose, General, Select, Verify, Announce, Challenge, Prove, ChooseChipKey, Read, ChangePin, Unblock, Activate, Deactivate}
+use Rattle.fields.specs.declared.asked.Request.{Request}
+use Rattle.fields.specs.declared.asked.Request.the-variants.{Refused as Faulty, Asks}
+use Rattle.fields.specs.declared.asked.Asked.{Asked}
+use Rattle.fields.specs.Asked.{askedOf}
+use Rattle.session.specs.Session.{isOpen}
+use Rattle.session.specs.Moment.{momentOf}
+use Rattle.token.specs.declared.state.Token.{Token}
+use Rattle.token.specs.Limits.{inLimits}
+use Rattle.token.specs.Commands.{choosePlan, generalPlan, announcePlan, readPlan, changePlan, unblockPlan, activePlan}
+use Rattle.token.specs.Certify.{selectPlan, verifyPlan}
+
+-- data, then the command's own checks
+unfoldable pub commandOf : Token → Asked → Ask → Plan
+commandOf t a Bad = settledBy (Refused Data)
+commandOf t a (Choose c) = choosePlan t c
+commandOf t a (General x) = generalPlan t (t .session .context .stage) x
+commandOf t a Select = selectPlan t (a .name)
+commandOf t a Verify = verifyPlan t (t .session .selected) (a .name) (a .point)
+commandOf t a Announce = announcePlan t (a .name) (a .key)
+-- "eight bytes; not passed 6300, same state"
+commandOf t a Challenge = awaitsBy ChallengeJob Challenged NotPassed
+-- "Not passed: 6300, back to announced"
+commandOf t a Prove = awaitsBy Proof Proven ProofLost
+commandOf t a ChooseChipKey = settledBy ChipKeyChosen
+commandOf t a (Read n) = readPlan t n
+commandOf t a ChangePin = changePlan t
+commandOf t a Unblock = unblockPlan t
+commandOf t a Activate = activePlan t Activated
+commandOf t a Deactivate = activePlan t Deactivated
+
+-- moment
+unfoldable pub timedOf : Token → Asked → Kind → Bool → Ask → Plan
+timedOf t a k chained ask = cond (not (momentOf (t .session) k chained)) (settledBy (Refused Moment)) (commandOf t a ask)
+
+-- command form; CLA; INS; P1-P2; presence of data and Le
+unfoldable pub requestedOf : Token → Asked → Request → Plan
+requestedOf t a (Faulty w) = settledBy (Refused w)
+requestedOf t a (Asks k chained ask) = timedOf t a k chained ask
+
+-- protection
+unfoldable pub guarded : Guard → Plan → Plan
+guarded (Drops l) p = settledBy (Lost l)
+guarded Passes p = p
+
+-- 6F00; protection; ..
+unfoldable pub planOf : Token → List ℕ → Note → Plan
+planOf t s note =
+    cond (not (inLimits t)) (settledBy (Refused Outside))
+    (guarded (guardOf note (isOpen (t .session .context .opened)))
+    (requestedOf t (askedOf s) (askedOf s .request)))

@@ -1,0 +1,253 @@
+// The only place where the token changes: one arm an event.
+ghost use mathlib.Core.Path.{_≡_};
+ghost use Rattle.token.specs.After.{choiceTaken, stepPassed, opened, runClosed, trialLost, issuerSelected, linkTaken, dvTaken, extended, terminalTaken, announced, staged, unblockedByPuk, unblocked, activated, triesAfter, todayAfter, afterOf};
+use super::state::Token;
+use event::happening::Event;
+use event::happening::Issuer;
+use event::run::Choice;
+use event::run::Step;
+use event::settle::Happened;
+use session::Chain;
+use session::Opened;
+use session::Reach;
+use session::Session;
+use session::Stage;
+use values::day::Day;
+use values::key::Key;
+use values::point::Point;
+use values::rights::Granted;
+use values::rights::Rights;
+
+// The PIN's tries when a session opens with this choice.
+fn tries_after(choice: Choice, pin: u8) -> u8
+    ensures { λ r. ⌜ r ≡ triesAfter choice pin ⌝ }
+{
+    if choice.password().is_pin() {
+        return Token::TRIES;
+    }
+    pin
+}
+
+// A chain's reach with a terminal under its DV.
+fn extended(reach: Reach) -> Reach
+    ensures { λ r. ⌜ r ≡ extended reach ⌝ }
+{
+    match reach {
+        Reach::Empty => Reach::Empty,
+        Reach::ToDv(root) => Reach::ToTerminal(root),
+        Reach::ToTerminal(root) => Reach::ToTerminal(root),
+    }
+}
+
+// Only a terminal of a domestic official DV moves the day.
+fn today_after(dv: Point, terminal: Point, today: Day) -> Day
+    ensures { λ r. ⌜ r ≡ todayAfter dv terminal today ⌝ }
+{
+    let rights = dv.rights;
+    let first = terminal.first;
+    if rights.role().is_official() {
+        return today.later(first);
+    }
+    today
+}
+
+impl Token {
+    // A choice is taken: a run opens; rights, chain, selection and stage fall; the opener stays.
+    fn choice_taken(mut self, choice: Choice) -> Self
+        ensures { λ r. ⌜ r ≡ choiceTaken self choice ⌝ }
+    {
+        let z = self.session;
+        let c = z.context;
+        let o = c.opened;
+        let s = Session::bare(o, Granted::NoRights, Stage::Run(choice, Step::Nonce));
+        self.session = s;
+        self
+    }
+
+    // The session at another stage.
+    fn staged(mut self, stage: Stage) -> Self
+        ensures { λ r. ⌜ r ≡ staged self stage ⌝ }
+    {
+        let z = self.session;
+        let s = z.at(stage);
+        self.session = s;
+        self
+    }
+
+    fn step_passed(mut self, choice: Choice, step: Step) -> Self
+        ensures { λ r. ⌜ r ≡ stepPassed self choice step ⌝ }
+    {
+        let next = step.next();
+        self.staged(Stage::Run(choice, next))
+    }
+
+    // The fourth step is passed: the session opens afresh.
+    fn opened(mut self, choice: Choice) -> Self
+        ensures { λ r. ⌜ r ≡ opened self choice ⌝ }
+    {
+        let w = choice.password();
+        let g = choice.rights();
+        let n = tries_after(choice, self.pin);
+        let s = Session::bare(Opened::By(w), g, Stage::Idle);
+        self.pin = n;
+        self.session = s;
+        self
+    }
+
+    // The run is closed: an old session stays open without rights.
+    fn run_closed(mut self) -> Self
+        ensures { λ r. ⌜ r ≡ runClosed self ⌝ }
+    {
+        let z = self.session;
+        let c = z.context;
+        let o = c.opened;
+        let s = Session::bare(o, Granted::NoRights, Stage::Idle);
+        self.session = s;
+        self
+    }
+
+    fn trial_lost(mut self, left: u8) -> Self
+        ensures { λ r. ⌜ r ≡ trialLost self left ⌝ }
+    {
+        let mut t = self.run_closed();
+        t.pin = left;
+        t
+    }
+
+    fn issuer_selected(mut self, issuer: Issuer) -> Self
+        ensures { λ r. ⌜ r ≡ issuerSelected self issuer ⌝ }
+    {
+        let z = self.session;
+        let s = z.selecting(issuer);
+        self.session = s;
+        self
+    }
+
+    // A link becomes newest, newest becomes previous, the chain is empty.
+    fn link_taken(mut self, link: Point) -> Self
+        ensures { λ r. ⌜ r ≡ linkTaken self link ⌝ }
+    {
+        let h = self.points;
+        let z = self.session;
+        let d = self.today;
+        let points = h.linked(link);
+        let chain = Chain::none();
+        let session = z.chained(chain);
+        let today = d.later(link.first);
+        self.points = points;
+        self.session = session;
+        self.today = today;
+        self
+    }
+
+    // A DV replaces the chain.
+    fn dv_taken(mut self, dv: Point, root: Rights) -> Self
+        ensures { λ r. ⌜ r ≡ dvTaken self dv root ⌝ }
+    {
+        let z = self.session;
+        let d = self.today;
+        let none = Point::none();
+        let chain = Chain {
+            reach: Reach::ToDv(root),
+            dv: dv,
+            terminal: none,
+        };
+        let session = z.chained(chain);
+        let today = d.later(dv.first);
+        self.session = session;
+        self.today = today;
+        self
+    }
+
+    // A terminal replaces the chain's terminal.
+    fn terminal_taken(mut self, terminal: Point) -> Self
+        ensures { λ r. ⌜ r ≡ terminalTaken self terminal ⌝ }
+    {
+        let z = self.session;
+        let c = z.context;
+        let old = c.chain;
+        let d = self.today;
+        let reach = old.reach;
+        let dv = old.dv;
+        let more = extended(reach);
+        let chain = Chain {
+            reach: more,
+            dv: dv,
+            terminal: terminal,
+        };
+        let session = z.chained(chain);
+        let today = today_after(dv, terminal, d);
+        self.session = session;
+        self.today = today;
+        self
+    }
+
+    fn announced(mut self, key: Key) -> Self
+        ensures { λ r. ⌜ r ≡ announced self key ⌝ }
+    {
+        let z = self.session;
+        let s = z.announced(key);
+        self.session = s;
+        self
+    }
+
+    // The counter becomes 3.
+    fn unblocked(mut self) -> Self
+        ensures { λ r. ⌜ r ≡ unblocked self ⌝ }
+    {
+        self.pin = Token::TRIES;
+        self
+    }
+
+    // The PUK takes one use.
+    fn unblocked_by_puk(mut self) -> Self
+        ensures { λ r. ⌜ r ≡ unblockedByPuk self ⌝ }
+    {
+        let left = order::less_one(self.puk);
+        self.pin = Token::TRIES;
+        self.puk = left;
+        self
+    }
+
+    fn activated(mut self, active: bool) -> Self
+        ensures { λ r. ⌜ r ≡ activated self active ⌝ }
+    {
+        self.active = active;
+        self
+    }
+
+    pub fn after(mut self, h: Happened) -> Self
+        ensures { λ r. ⌜ r ≡ afterOf self (h .event) (h .point) (h .key) ⌝ }
+    {
+        let e = h.event;
+        let point = h.point;
+        let key = h.key;
+        match e {
+            Event::Refused(_) => self,
+            Event::Lost(_) => self.reset(),
+            Event::Chosen(choice, _) => self.choice_taken(choice),
+            Event::StepPassed(choice, step) => self.step_passed(choice, step),
+            Event::Opened(choice) => self.opened(choice),
+            Event::RunClosed => self.run_closed(),
+            Event::TrialLost(left) => self.trial_lost(left),
+            Event::Selected(issuer) => self.issuer_selected(issuer),
+            Event::LinkTaken => self.link_taken(point),
+            Event::DvTaken(root) => self.dv_taken(point, root),
+            Event::TerminalTaken => self.terminal_taken(point),
+            Event::Announced => self.announced(key),
+            Event::Challenged => self.staged(Stage::Challenged),
+            Event::Proven => self.staged(Stage::Proven),
+            Event::ProofLost => self.staged(Stage::Announced),
+            Event::ChipKeyChosen => self.staged(Stage::ChipKeyChosen),
+            Event::Authenticated => self.staged(Stage::Authenticated),
+            Event::ChipLost => self.staged(Stage::Proven),
+            Event::ReadAllowed => self,
+            Event::PinChanged => self,
+            Event::UnblockedByPuk => self.unblocked_by_puk(),
+            Event::UnblockedByRight => self.unblocked(),
+            Event::Activated => self.activated(true),
+            Event::Deactivated => self.activated(false),
+            Event::NotPassed => self,
+        }
+    }
+}

@@ -1,0 +1,50 @@
+// The limits of a state.
+ghost use mathlib.Core.Path.{_≡_};
+ghost use Rattle.token.specs.Limits.{selectable, inLimits};
+use super::state::Token;
+use event::happening::Issuer;
+use session::Selected;
+
+// Whether a selection is one of the trust points held or the chain's DV.
+fn selectable(selected: Selected, two: bool, dv: bool) -> bool
+    ensures { λ r. ⌜ r ≡ selectable selected two dv ⌝ }
+{
+    let Selected::Of(issuer) = selected else {
+        return true;
+    };
+    match issuer {
+        Issuer::Newest => true,
+        Issuer::Previous => two,
+        Issuer::Dv => dv,
+    }
+}
+
+impl Token {
+    // Whether the state is within its limits.
+    pub fn in_limits(self) -> bool
+        ensures { λ b. ⌜ b ≡ inLimits self ⌝ }
+    {
+        let points = self.points;
+        let two = points.two;
+        let session = self.session;
+        let selected = session.selected;
+        let context = session.context;
+        let chain = context.chain;
+        let dv = chain.dv;
+        let name = dv.name;
+        let today = self.today;
+        let dated = today.fits();
+        let trusted = points.fit();
+        let parts = context.fits(self.pin);
+        let held = chain.has_dv();
+        let known = points.knows(name);
+        let chosen = selectable(selected, two, held);
+        (self.pin <= Token::TRIES)
+            & (self.puk <= Token::USES)
+            & dated
+            & trusted
+            & parts
+            & !(held & known)
+            & chosen
+    }
+}

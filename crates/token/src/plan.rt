@@ -1,0 +1,92 @@
+// All checks before the verdict, in document 01's order.
+ghost use mathlib.Core.Path.{_≡_};
+ghost use Rattle.event.specs.Course.{courseJob};
+ghost use Rattle.fields.specs.Asked.{askedOf};
+ghost use Rattle.token.specs.Plan.{commandOf, timedOf, requestedOf, planOf};
+use super::state::Token;
+use command::kind::Kind;
+use event::course::Guard;
+use event::course::Job;
+use event::course::Note;
+use event::course::Plan;
+use event::happening::Event;
+use event::happening::Refusal;
+use fields::asked::Ask;
+use fields::asked::Asked;
+use fields::asked::Request;
+
+impl Token {
+    // The command's own checks, data first.
+    fn command(self, a: Asked, ask: Ask) -> Plan
+        ensures { λ r. ⌜ r ≡ commandOf self a ask ⌝ }
+    {
+        let name = a.name;
+        let point = a.point;
+        let key = a.key;
+        match ask {
+            Ask::Bad => Plan::settled(Event::Refused(Refusal::Data)),
+            Ask::Choose(choice) => self.choose(choice),
+            Ask::General(content) => self.general(content),
+            Ask::Select => self.select(name),
+            Ask::Verify => self.verify(name, point),
+            Ask::Announce => self.announce(name, key),
+            Ask::Challenge => Plan::awaits(Job::Challenge, Event::Challenged, Event::NotPassed),
+            Ask::Prove => Plan::awaits(Job::Proof, Event::Proven, Event::ProofLost),
+            Ask::ChooseChipKey => Plan::settled(Event::ChipKeyChosen),
+            Ask::Read(group) => self.read(group),
+            Ask::ChangePin => self.change_pin(),
+            Ask::Unblock => self.unblock(),
+            Ask::Activate => self.set_active(Event::Activated),
+            Ask::Deactivate => self.set_active(Event::Deactivated),
+        }
+    }
+
+    // Moment, then the command's own.
+    fn timed(self, a: Asked, kind: Kind, chained: bool, ask: Ask) -> Plan
+        ensures { λ r. ⌜ r ≡ timedOf self a kind chained ask ⌝ }
+    {
+        let z = self.session;
+        if !z.moment(kind, chained) {
+            return Plan::settled(Event::Refused(Refusal::Moment));
+        }
+        self.command(a, ask)
+    }
+
+    // Form, CLA, INS, P1-P2, presence.
+    fn requested(self, a: Asked) -> Plan
+        ensures { λ r. ⌜ r ≡ requestedOf self a (a .request) ⌝ }
+    {
+        let request = a.request;
+        match request {
+            Request::Refused(w) => Plan::settled(Event::Refused(w)),
+            Request::Asks { kind, chained, ask } => self.timed(a, kind, chained, ask),
+        }
+    }
+
+    // The limits, then protection.
+    pub fn plan(self, s: &[u8], note: Note) -> Plan
+        ensures { λ r. ⌜ r ≡ planOf self (now (s .entry)) note ⌝ }
+    {
+        if !self.in_limits() {
+            return Plan::settled(Event::Refused(Refusal::Outside));
+        }
+        let z = self.session;
+        let c = z.context;
+        let o = c.opened;
+        let held = o.is_open();
+        let a = fields::asked_of(s);
+        match note.guard(held) {
+            Guard::Drops(loss) => Plan::settled(Event::Lost(loss)),
+            Guard::Passes => self.requested(a),
+        }
+    }
+
+    // Which job a command and its note want.
+    pub fn job(self, s: &[u8], note: Note) -> Job
+        ensures { λ r. ⌜ r ≡ courseJob (planOf self (now (s .entry)) note .course) ⌝ }
+    {
+        let p = self.plan(s, note);
+        let course = p.course;
+        course.job()
+    }
+}

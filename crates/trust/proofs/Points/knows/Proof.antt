@@ -1,0 +1,13 @@
+-- `trust::Points::knows` meets its contract. Assumes nothing.
+use borrow.Author.Needs.{needs}
+use Rattle.trust.proofs.Anchors.{anchors}
+use Rattle.trust.proofs.Points.knows.Statement.{statement}
+use Rattle.trust.proofs.Points.knows.Tie as tie
+
+pub knows-spec : {M : Type 1} → statement M
+knows-spec =
+    tie.close
+    (tie.spec
+    (λ c κs. search needs)
+    (λ c κs. search needs)
+    (λ c. search anchors depth 7))

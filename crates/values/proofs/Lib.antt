@@ -1,0 +1,5 @@
+pub mod Strings
+pub mod Contents
+pub mod Bits
+pub mod Kept
+pub mod Pinned

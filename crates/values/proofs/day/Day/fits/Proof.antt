@@ -1,0 +1,13 @@
+-- `values::day::Day::fits` meets its contract. Assumes nothing.
+use borrow.Author.Needs.{needs}
+use Rattle.values.specs.Days.{dayFits}
+use Rattle.values.proofs.day.Day.fits.Statement.{statement}
+use Rattle.values.proofs.day.Day.fits.Tie as tie
+
+pub fits-spec : {M : Type 1} → statement M
+unfolding dayFits
+fits-spec =
+    tie.close
+    (tie.spec
+    (λ c κs. search needs)
+    (λ c. search needs))

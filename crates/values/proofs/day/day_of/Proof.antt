@@ -1,0 +1,17 @@
+-- `values::day::day_of` meets its contract. Assumes nothing.
+use borrow.Author.Needs.{needs}
+use Rattle.values.proofs.Contents.{contents}
+use Rattle.values.proofs.day.day_of.Statement.{statement}
+use Rattle.values.proofs.day.day_of.Tie as tie
+
+pub day-of-spec : {M : Type 1} → statement M
+day-of-spec =
+    tie.close
+    (tie.spec
+    (λ c. search contents)
+    (λ c κs. search needs)
+    (λ c. search contents)
+    (λ c κs. search needs)
+    (λ c κs. search needs)
+    (λ c. search contents)
+    (λ c. search contents))

@@ -1,0 +1,12 @@
+-- `values::key::Key::stands` meets its contract. Assumes nothing.
+use borrow.Author.Needs.{needs}
+use Rattle.values.specs.Keys.{keyStands}
+use Rattle.values.proofs.key.Key.stands.Statement.{statement}
+use Rattle.values.proofs.key.Key.stands.Tie as tie
+
+pub stands-spec : {M : Type 1} → statement M
+unfolding keyStands
+stands-spec =
+    tie.close
+    (tie.spec
+    (λ c. search needs))

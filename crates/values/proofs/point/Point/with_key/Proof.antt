@@ -1,0 +1,12 @@
+-- `values::point::Point::with_key` meets its contract. Assumes nothing.
+use borrow.Author.Needs.{needs}
+use Rattle.values.specs.Points.{withKey}
+use Rattle.values.proofs.point.Point.with_key.Statement.{statement}
+use Rattle.values.proofs.point.Point.with_key.Tie as tie
+
+pub with-key-spec : {M : Type 1} → statement M
+unfolding withKey
+with-key-spec =
+    tie.close
+    (tie.spec
+    (λ c. search needs))

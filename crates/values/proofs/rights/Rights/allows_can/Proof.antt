@@ -1,0 +1,11 @@
+-- `values::rights::Rights::allows_can` meets its contract. Assumes nothing.
+use borrow.Author.Needs.{needs}
+use Rattle.values.proofs.Bits.{mask-test}
+use Rattle.values.proofs.rights.Rights.allows_can.Statement.{statement}
+use Rattle.values.proofs.rights.Rights.allows_can.Tie as tie
+
+pub allows-can-spec : {M : Type 1} → statement M
+allows-can-spec =
+    tie.close
+    (tie.spec
+    (λ c. mask-test (c .before .args .self .0) 4))

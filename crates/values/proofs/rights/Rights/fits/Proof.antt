@@ -1,0 +1,12 @@
+-- `values::rights::Rights::fits` meets its contract. Assumes nothing.
+use borrow.Author.Needs.{needs}
+use Rattle.values.specs.Rights.{rightsFit}
+use Rattle.values.proofs.rights.Rights.fits.Statement.{statement}
+use Rattle.values.proofs.rights.Rights.fits.Tie as tie
+
+pub fits-spec : {M : Type 1} → statement M
+unfolding rightsFit
+fits-spec =
+    tie.close
+    (tie.spec
+    (λ c. search needs))

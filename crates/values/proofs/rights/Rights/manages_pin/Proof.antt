@@ -1,0 +1,11 @@
+-- `values::rights::Rights::manages_pin` meets its contract. Assumes nothing.
+use borrow.Author.Needs.{needs}
+use Rattle.values.proofs.Bits.{mask-test}
+use Rattle.values.proofs.rights.Rights.manages_pin.Statement.{statement}
+use Rattle.values.proofs.rights.Rights.manages_pin.Tie as tie
+
+pub manages-pin-spec : {M : Type 1} → statement M
+manages-pin-spec =
+    tie.close
+    (tie.spec
+    (λ c. mask-test (c .before .args .self .0) 5))

@@ -1,0 +1,62 @@
+// Bytes that are no body: 6A80 each.
+ghost use Prim.Native.Nat.{_≤_};
+use super::certificates::UTTERM;
+use super::show::body;
+use super::show::heading;
+use super::show::number;
+use super::show::text;
+use certificate::Answer;
+use values::bytes::clip;
+
+pub fn section() {
+    heading(b"bad input");
+    body(b"no bytes", b"");
+    body(b"one byte", b"\x7f");
+    truncated(&UTTERM);
+    followed(&UTTERM);
+}
+
+// One, if the bytes are refused.
+fn refused(s: &[u8]) -> usize
+    ensures { λ r. ⌜ r ≤ 1 ⌝ }
+{
+    let r = certificate::read_body(s);
+    let answer = r.answer;
+    match answer {
+        Answer::Read => 0,
+        Answer::Unread => 1,
+    }
+}
+
+// How many of the truncations of a body are refused.
+fn truncations(s: &[u8]) -> usize {
+    let mut n = 0;
+    let mut i = 0;
+    while i < s.len() {
+        n += refused(&s[..i]);
+        i += 1;
+    }
+    n
+}
+
+fn truncated(s: &[u8]) {
+    text(b"truncations refused ");
+    number(truncations(s));
+    text(b" of ");
+    number(s.len());
+    text(b"\n");
+}
+
+// A body with the first byte of another after it, and with the whole of it.
+fn followed(s: &[u8]) {
+    let mut two = [0u8; 400];
+    let n = clip(s.len(), 200);
+    let mut i = 0;
+    while i < n {
+        two[i] = s[i];
+        two[n + i] = s[i];
+        i += 1;
+    }
+    body(b"one byte more", &two[..n + 1]);
+    body(b"two bodies", &two[..n + n]);
+}
