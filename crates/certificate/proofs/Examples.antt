@@ -3,7 +3,7 @@ use Prim.Native.Nat.{ℕ}
 use mathlib.Core.Path.{_≡_, refl}
 use mathlib.Core.List.{List, [], _∷_}
 use Rattle.objects.specs.Objects.{objectsIn, objects, objectsOf, foundIn, headerOf, tagOf, tag2, lenOf, len1, len2}
-use Rattle.objects.specs.Chain.{counted, taken}
+use Rattle.objects.specs.Chain.{taken}
 use Rattle.values.specs.Bytes.{copiedInto}
 use Rattle.values.specs.Names.{isName, nameOf}
 use Rattle.values.specs.Days.{isDate, isDay, before}

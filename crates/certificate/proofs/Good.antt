@@ -1,13 +1,13 @@
 -- A body that was read is within document 01's limits. Assumes nothing.
-use Prim.Native.Nat.{ℕ, _+_, _-_}
-use mathlib.Core.Path.{_≡_, refl, sym, ap, _∙_}
-use mathlib.Core.Bool.{Bool, true, false, cond, not, _&&_}
+use Prim.Native.Nat.{ℕ, _-_}
+use mathlib.Core.Path.{_≡_}
+use mathlib.Core.Bool.{true, false, not}
 use mathlib.Core.List.{List, [], _∷_}
 use lib.Dec.{eqb}
 use lib.ListN.{length, drop}
 use Rattle.laws.proofs.Bools.{of-both, and-l, and-r, true-false}
 use Rattle.objects.specs.Objects.{part, objectsIn}
-use Rattle.objects.specs.Chain.{answered, taken}
+use Rattle.objects.specs.Chain.{taken}
 use Rattle.objects.proofs.Chain.{taken-all, answered-all}
 use Rattle.values.specs.Bytes.{eqbs}
 use Rattle.values.specs.Names.{isName, nameOf, nameFits}

@@ -1,19 +1,19 @@
 -- The links of the chain: at each object, what the code knows when it hands the rest on, or gives up, and what the definition
 -- then says. Each law is over plain values, for a search to fit. Assumes nothing.
 use borrow.Author.Needs.{needs}
-use Prim.Native.Nat.{ℕ, zero, suc, _+_, _-_, _≤_, _<_}
-use native.Mathlib.Nat.{zero-add, add-zero}
+use Prim.Native.Nat.{ℕ, _+_, _-_, _≤_, _<_}
+use native.Mathlib.Nat.{add-zero}
 use native.Mathlib.Omega.{arith}
 use mathlib.Core.Path.{_≡_, refl, sym, ap, _∙_}
 use mathlib.Core.Bool.{Bool, true, false, cond, not, _&&_}
 use mathlib.Core.List.{List, [], _∷_}
-use borrow.Author.Tests.{eq-eqb, ne-eqb, eqb-true, eqb-false, leb-true, le-leb, lt-leb}
+use borrow.Author.Tests.{eq-eqb, ne-eqb, eqb-true, eqb-false, leb-true, le-leb}
 use mir.Val.{Fits}
 use mir.Syntax.{w64}
 use lib.Dec.{eqb, leb}
 use lib.ListN.{length, drop, length-drop}
-use Rattle.objects.specs.Objects.{allowance, deepest, part, objects, objectsAt, within, foundIn}
-use Rattle.objects.specs.Chain.{answered, counted, taken, takenBy}
+use Rattle.objects.specs.Objects.{allowance, deepest, part, objectsAt, within, foundIn}
+use Rattle.objects.specs.Chain.{counted, taken, takenBy}
 use Rattle.objects.specs.declared.Count.{Count}
 use Rattle.objects.specs.declared.Count.the-variants.{Objects, Refused}
 use Rattle.objects.specs.declared.Found.{Found}
@@ -36,7 +36,7 @@ use Rattle.values.specs.declared.day.Dated.{Dated}
 use Rattle.values.specs.declared.day.Dated.the-variants.{On, NoDay}
 use Rattle.values.specs.declared.rights.Granted.{Granted}
 use Rattle.values.specs.declared.rights.Granted.the-variants.{These, NoRights}
-use Rattle.laws.proofs.Bools.{and-l, and-r, true-false}
+use Rattle.laws.proofs.Bools.{and-l, and-r}
 use Rattle.certificate.proofs.Contents.{rights-count}
 
 -- a name that fits has room

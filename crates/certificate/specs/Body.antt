@@ -19,7 +19,6 @@ use Rattle.values.specs.Points.{noPoint}
 use Rattle.values.specs.declared.name.Name.{Name}
 use Rattle.values.specs.declared.day.Day.{Day}
 use Rattle.values.specs.declared.rights.Rights.{Rights}
-use Rattle.values.specs.declared.point.Point.{Point}
 use Rattle.values.specs.declared.word.Word.{Word}
 use Rattle.values.specs.declared.word.Word.the-variants.{Done, Data}
 use Rattle.certificate.specs.declared.Place.{Place}

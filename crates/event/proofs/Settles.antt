@@ -13,9 +13,6 @@ use lib.Dec.{eqb, leb}
 use lib.ListN.{length}
 use Rattle.laws.proofs.Bools.{true-false, and-l, and-r}
 use Rattle.values.specs.Bytes.{among, longest}
-use Rattle.values.specs.declared.key.Key.{Key}
-use Rattle.values.specs.declared.point.Point.{Point}
-use Rattle.event.specs.declared.run.Step.{Step}
 use Rattle.event.specs.declared.happening.Event.{Event}
 use Rattle.event.specs.declared.course.Job.{Job}
 use Rattle.event.specs.declared.course.Job.the-variants.{Nothing, Step as StepJob, Certificate, Challenge, Proof, ChipKey, PinChange}

@@ -1,13 +1,13 @@
 -- The small functions: each arm of a match, and the plans' empty parts. Assumes nothing.
 use borrow.Author.Needs.{needs}
 use Prim.Native.Nat.{ℕ}
-use mathlib.Core.Bool.{Bool, true, false, cond, _&&_}
-use mathlib.Core.Path.{_≡_, refl, sym, ap, _∙_}
+use mathlib.Core.Bool.{Bool, true, false, _&&_}
+use mathlib.Core.Path.{_≡_, sym, ap, _∙_}
 use mathlib.Core.List.{List}
 use lib.Dec.{ltb, eqb}
 use Rattle.values.specs.Bytes.{among, longest}
 use Rattle.values.specs.Points.{noPoint}
-use Rattle.values.specs.Keys.{noKey, keyIs}
+use Rattle.values.specs.Keys.{noKey}
 use Rattle.values.specs.declared.rights.Granted.{Granted}
 use Rattle.values.specs.declared.word.Word.{Word}
 use Rattle.values.specs.declared.word.Word.the-variants.{Done, Tries}
@@ -28,7 +28,7 @@ use Rattle.event.specs.declared.settle.Happened.{Happened}
 use Rattle.event.specs.Run.{passwordOf, rightsNamed, isPin, isLast}
 use Rattle.event.specs.Event.{chosenWord, wordOf}
 use Rattle.event.specs.Course.{settledBy, awaitsBy, guardOf, courseJob}
-use Rattle.event.specs.Settle.{jobFits, jobNumber, matches, takenIn, endsBy, passesBy}
+use Rattle.event.specs.Settle.{jobFits, jobNumber, matches, takenIn, passesBy}
 
 pub rights-arm : (x d : Choice) (r : Granted) → x ≡ d → r ≡ rightsNamed d → r ≡ rightsNamed x
 rights-arm x d r e z = z ∙ ap rightsNamed (sym e)

@@ -1,21 +1,20 @@
 -- What a reader that takes the objects as they pass goes by: each object taken is one more used, and the count of the rest
 -- goes on from there. Assumes nothing.
-use Prim.Native.Nat.{ℕ, zero, suc, _+_, _-_, _<_, _≤_}
+use Prim.Native.Nat.{ℕ, _+_, _-_, _<_, _≤_}
 use native.Mathlib.Nat.{add-assoc, zero-add}
 use native.Mathlib.Omega.{arith}
-use mathlib.Core.Path.{_≡_, refl, sym, ap, _∙_}
+use mathlib.Core.Path.{_≡_, refl, sym, _∙_}
 use mathlib.Core.List.{List}
 use mathlib.Core.Bool.{Bool, true, false, cond, _&&_}
 use lib.Dec.{leb, eqb}
 use lib.ListN.{length, drop, take}
-use borrow.Author.Tests.{leb-true, leb-false, lt-leb, eqb-true, eq-eqb, ne-eqb}
+use borrow.Author.Tests.{leb-false, lt-leb, eqb-true, eq-eqb, ne-eqb}
 use Rattle.objects.specs.Objects.{headerOf, part, objects, object, within, plus, closed, thenRest, allowance, objectsAt, objectsIn, foundIn, tagged, alike}
 use Rattle.objects.specs.Chain.{answered, counted, taken, takenBy}
 use Rattle.objects.specs.declared.Head.{Head}
 use Rattle.objects.specs.declared.Head.the-variants.{Header, NoHeader}
 use Rattle.objects.specs.declared.Count.{Count}
 use Rattle.objects.specs.declared.Count.the-variants.{Objects, Refused}
-use Rattle.objects.specs.declared.One.the-variants.{Object, NoObject}
 use Rattle.objects.specs.declared.Found.{Found}
 use Rattle.objects.specs.declared.Found.the-variants.{Content, Missing}
 use Rattle.laws.proofs.Lists.{from}

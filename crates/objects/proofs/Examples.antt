@@ -1,8 +1,7 @@
 -- Worked examples of the definitions, computed. Assumes nothing.
-use Prim.Native.Nat.{ℕ, zero, suc, _+_}
 use mathlib.Core.Path.{_≡_, refl}
-use mathlib.Core.List.{List, [], _∷_, _++_}
-use mathlib.Core.Bool.{true, false}
+use mathlib.Core.List.{[], _∷_}
+use mathlib.Core.Bool.{false}
 use lib.ListN.{replicate}
 use Rattle.objects.specs.Objects.{tagOf, tag2, lenOf, len1, len2, headerOf, objectsOf, objects, objectsIn}
 use Rattle.objects.specs.declared.Head.the-variants.{Header, NoHeader}

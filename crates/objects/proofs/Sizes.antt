@@ -1,16 +1,15 @@
 -- What holds of every answer of the definitions: a tag, a length and a content lie in the bytes that they were read from.
 -- Assumes nothing.
-use Prim.Native.Nat.{ℕ, zero, suc, _+_, _-_, _*_, _%_, _<_, _≤_}
-use mathlib.Core.Path.{_≡_, refl, ap, subst}
+use Prim.Native.Nat.{ℕ, suc, _+_, _-_, _*_, _%_, _<_, _≤_}
+use mathlib.Core.Path.{_≡_, refl, subst}
 use mathlib.Core.List.{List, [], _∷_}
 use mathlib.Core.Bool.{Bool, true, false, cond, _&&_}
 use lib.Dec.{leb, ltb, eqb}
 use native.Mathlib.Omega.{arith}
-use lib.ListN.{length, take, drop, length-drop}
+use lib.ListN.{length, drop, length-drop}
 use lib.Seq.{length-take-le}
 use borrow.Author.Tests.{leb-true}
-use Rattle.laws.proofs.Bools.{of-both, true-false}
-use Rattle.laws.proofs.Lists.{from}
+use Rattle.laws.proofs.Bools.{of-both}
 use Rattle.objects.specs.Objects.{tagOf, tag2, lenOf, len1, len2, headerOf, labelled, placed, objectBy, closed, part, foundIn, tagged, alike}
 use Rattle.objects.specs.declared.Label.{Label}
 use Rattle.objects.specs.declared.Label.the-variants.{Tag, NoTag}

@@ -2,7 +2,7 @@
 -- holds, and the object with an expected tag. Assumes nothing: these are definitions.
 use Prim.Native.Nat.{ℕ, zero, suc, _+_, _-_, _*_, _/_, _%_}
 use mathlib.Core.List.{List, [], _∷_}
-use mathlib.Core.Bool.{Bool, true, false, cond, not, _&&_, _||_}
+use mathlib.Core.Bool.{Bool, cond, not, _&&_, _||_}
 use lib.ListN.{length, take, drop}
 use lib.Dec.{leb, ltb, eqb}
 use Rattle.objects.specs.declared.Label.{Label}

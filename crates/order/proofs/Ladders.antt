@@ -1,8 +1,8 @@
 -- The ladders' ways, over plain values. Assumes nothing.
 use borrow.Author.Needs.{needs}
 use Prim.Native.Nat.{ℕ, _-_}
-use mathlib.Core.Bool.{Bool, true, false, cond}
-use mathlib.Core.Path.{_≡_, refl, sym, ap, _∙_}
+use mathlib.Core.Bool.{Bool, true, false}
+use mathlib.Core.Path.{_≡_, sym, ap, _∙_}
 use Rattle.laws.proofs.Rungs.{rungs}
 use Rattle.values.specs.declared.rights.Rights.{Rights}
 use Rattle.values.specs.declared.rights.Role.{Role}

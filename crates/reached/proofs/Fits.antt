@@ -1,7 +1,7 @@
 -- What an event tells of the token and the command that it comes from: the one walk down the plan. Assumes nothing.
 use Prim.Native.Nat.{ℕ, _-_}
 use mathlib.Core.Bool.{Bool, true, false, cond, not, _&&_, _||_}
-use mathlib.Core.Path.{_≡_, refl, sym, ap, subst, _∙_}
+use mathlib.Core.Path.{_≡_, refl, subst}
 use mathlib.Core.List.{List}
 use lib.Dec.{eqb, leb}
 use lib.ListN.{length}
@@ -11,11 +11,10 @@ use Rattle.values.specs.Names.{sameName}
 use Rattle.values.specs.Points.{noPoint, withKey}
 use Rattle.values.specs.Days.{dayFits}
 use Rattle.values.specs.Keys.{noKey}
-use Rattle.values.specs.Rights.{roleOf, isCvca, isDv, isTerminal, readsGroup}
+use Rattle.values.specs.Rights.{roleOf, isDv, readsGroup}
 use Rattle.values.specs.declared.name.Name.{Name}
 use Rattle.values.specs.declared.key.Key.{Key}
 use Rattle.values.specs.declared.point.Point.{Point}
-use Rattle.values.specs.declared.rights.Rights.{Rights}
 use Rattle.values.specs.declared.rights.Role.{Role}
 use Rattle.values.specs.declared.rights.Role.the-variants.{Cvca, OfficialDv, OtherDv, Terminal}
 use Rattle.command.specs.declared.kind.Kind.{Kind}
@@ -33,16 +32,16 @@ use Rattle.event.specs.declared.course.Note.{Note}
 use Rattle.event.specs.declared.course.Guard.{Guard}
 use Rattle.event.specs.declared.course.Guard.the-variants.{Passes, Drops}
 use Rattle.event.specs.declared.course.Job.{Job}
-use Rattle.event.specs.declared.course.Job.the-variants.{Step as StepJob, Certificate, Challenge as ChallengeJob, Proof, ChipKey, PinChange}
+use Rattle.event.specs.declared.course.Job.the-variants.{Step as StepJob, Challenge as ChallengeJob, Proof, PinChange}
 use Rattle.event.specs.declared.course.Course.{Course}
 use Rattle.event.specs.declared.course.Course.the-variants.{Settled, Awaits}
 use Rattle.event.specs.declared.course.Plan.{Plan}
 use Rattle.event.specs.declared.settle.Answered.{Answered}
 use Rattle.event.specs.declared.settle.Happened.{Happened}
 use Rattle.event.specs.Course.{settledBy, awaitsBy, guardOf}
-use Rattle.event.specs.Settle.{takenIn, endsBy, passesBy, settleOf}
+use Rattle.event.specs.Settle.{takenIn, endsBy, passesBy}
 use Rattle.event.proofs.Settles.{settle-all}
-use Rattle.order.specs.Order.{chooseLadder, passedEvent, trialOf, otherEvent, issues, takenEvent, verifyLadder, grounded, unblockLadder}
+use Rattle.order.specs.Order.{chooseLadder, passedEvent, otherEvent, issues, takenEvent, verifyLadder, unblockLadder}
 use Rattle.trust.specs.Trust.{pointsFit, knows, found, holderOf}
 use Rattle.trust.specs.declared.Points.{Points}
 use Rattle.trust.specs.declared.Anchor.{Anchor}
@@ -50,7 +49,7 @@ use Rattle.trust.specs.declared.Anchor.the-variants.{Is, Unknown}
 use Rattle.fields.specs.declared.asked.Content.{Content}
 use Rattle.fields.specs.declared.asked.Content.the-variants.{Step as StepData, Chip}
 use Rattle.fields.specs.declared.asked.Ask.{Ask}
-use Rattle.fields.specs.declared.asked.Ask.the-variants.{Bad, Choose, General, Select, Verify, Announce, Challenge, Prove, ChooseChipKey, Read, ChangePin, Unblock, Activate, Deactivate}
+use Rattle.fields.specs.declared.asked.Ask.the-variants.{Choose, General, Select, Verify, Announce, Challenge, Prove, ChooseChipKey, Read, ChangePin, Unblock, Activate, Deactivate}
 use Rattle.fields.specs.declared.asked.Request.{Request}
 use Rattle.fields.specs.declared.asked.Request.the-variants.{Refused as Faulty, Asks}
 use Rattle.fields.specs.declared.asked.Asked.{Asked}
@@ -68,7 +67,7 @@ use Rattle.token.specs.declared.state.Token.{Token}
 use Rattle.token.specs.State.{tries, uses}
 use Rattle.token.specs.Limits.{selectable, inLimits}
 use Rattle.token.specs.Commands.{contextOf, managesPin, isFor, choosePlan, runPlan, chipPlan, generalPlan, announcePlan, readPlan, changePlan, unblockPlan, activePlan}
-use Rattle.token.specs.Certify.{chainOf, selectBy, selectPlan, repeats, late, heldCourse, underCourse, underPlan, verifyPlan}
+use Rattle.token.specs.Certify.{chainOf, selectBy, selectPlan, repeats, late, underCourse, underPlan, verifyPlan}
 use Rattle.token.specs.Plan.{commandOf, timedOf, requestedOf, guarded, planOf}
 use Rattle.token.specs.Step.{happenedOf}
 

@@ -3,26 +3,21 @@ use Prim.Native.Nat.{ℕ, _-_}
 use mathlib.Core.Bool.{Bool, true, false, cond, not, _&&_, _||_}
 use mathlib.Core.Path.{_≡_, refl, sym, ap, _∙_}
 use mathlib.Core.List.{List, []}
-use lib.Dec.{eqb, leb, ltb}
+use lib.Dec.{eqb, ltb}
 use lib.ListN.{length, take}
-use Rattle.laws.proofs.Bools.{true-false, and-l, and-r, of-both}
-use Rattle.values.specs.Keys.{noKey}
+use Rattle.laws.proofs.Bools.{true-false, of-both}
 use Rattle.values.specs.Names.{sameName}
 use Rattle.values.specs.Rights.{roleOf, readsGroup}
-use Rattle.values.specs.Words.{number}
 use Rattle.values.specs.declared.key.Key.{Key}
 use Rattle.values.specs.declared.name.Name.{Name}
 use Rattle.values.specs.declared.point.Point.{Point}
-use Rattle.command.specs.declared.kind.Kind.{Kind}
 use Rattle.event.specs.declared.run.Choice.{Choice}
 use Rattle.event.specs.declared.run.Step.{Step}
 use Rattle.event.specs.declared.run.Step.the-variants.{Confirm}
 use Rattle.event.specs.Run.{passwordOf, isPin, isPuk, isLast}
 use Rattle.event.specs.declared.happening.Refusal.{Refusal}
-use Rattle.event.specs.declared.happening.Issuer.{Issuer}
 use Rattle.event.specs.declared.happening.Event.{Event}
 use Rattle.event.specs.declared.happening.Event.the-variants.{Refused, Lost, Chosen, StepPassed, Opened, RunClosed, TrialLost, Selected, LinkTaken, DvTaken, TerminalTaken, Announced, Challenged, Proven, ProofLost, ChipKeyChosen, Authenticated, ChipLost, ReadAllowed, PinChanged, UnblockedByPuk, UnblockedByRight, Activated, Deactivated, NotPassed}
-use Rattle.event.specs.Event.{wordOf}
 use Rattle.event.specs.declared.course.Note.{Note}
 use Rattle.event.specs.declared.course.Guard.{Guard}
 use Rattle.event.specs.declared.course.Guard.the-variants.{Passes, Drops}
@@ -36,9 +31,9 @@ use Rattle.event.specs.declared.settle.Verdict.the-variants.{Passed, Failed, Mi
 use Rattle.event.specs.declared.settle.Answered.{Answered}
 use Rattle.event.specs.declared.settle.Happened.{Happened}
 use Rattle.event.specs.Course.{settledBy, awaitsBy, guardOf, courseJob}
-use Rattle.event.specs.Settle.{jobNumber, jobFits, matches, endsBy, passesBy, judgedOf, awaitedOf, courseOf, settleOf}
+use Rattle.event.specs.Settle.{jobNumber, jobFits, matches, endsBy, judgedOf, awaitedOf, courseOf, settleOf}
 use Rattle.event.proofs.Settles.{no-influence, settle-all}
-use Rattle.order.specs.Order.{chooseLadder, trialOf, otherEvent, issues, takenEvent, verifyLadder, grounded, unblockLadder}
+use Rattle.order.specs.Order.{chooseLadder, otherEvent, issues, takenEvent, verifyLadder, grounded, unblockLadder}
 use Rattle.trust.specs.Trust.{found, holderOf}
 use Rattle.trust.specs.declared.Anchor.{Anchor}
 use Rattle.trust.specs.declared.Anchor.the-variants.{Is, Unknown}

@@ -1,19 +1,18 @@
 -- Every state that is reached from within the limits is within the limits. Assumes nothing.
-use Prim.Native.Nat.{ℕ, _-_, _≤_}
+use Prim.Native.Nat.{ℕ, _-_}
 use mathlib.Core.Bool.{Bool, true, false, cond, not, _&&_, _||_}
 use mathlib.Core.Path.{_≡_, refl, sym, ap, subst, _∙_}
 use mathlib.Core.List.{List}
 use native.Mathlib.Omega.{arith}
-use borrow.Author.Tests.{leb-true, le-leb, not-true, not-false}
+use borrow.Author.Tests.{leb-true, le-leb}
 use lib.Dec.{eqb, leb, ltb}
 use Rattle.laws.proofs.Bools.{true-false, and-l, and-r, and-5, or-l, or-then, both, of-both}
 use Rattle.values.specs.Names.{sameName, nameFits}
 use Rattle.values.specs.Days.{dayFits, before, later}
-use Rattle.values.specs.Rights.{rightsFit, roleOf, isCvca, isDv, isTerminal, isOfficial}
+use Rattle.values.specs.Rights.{rightsFit, roleOf, isCvca, isDv, isOfficial}
 use Rattle.values.specs.Points.{noPoint, pointFits, withKey}
 use Rattle.values.specs.Keys.{noKey, keyFits, keyStands}
 use Rattle.values.proofs.Kept.{same-turned}
-use Rattle.values.specs.declared.name.Name.{Name}
 use Rattle.values.specs.declared.day.Day.{Day}
 use Rattle.values.specs.declared.key.Key.{Key}
 use Rattle.values.specs.declared.point.Point.{Point}
@@ -28,13 +27,11 @@ use Rattle.event.specs.declared.run.Step.the-variants.{Nonce}
 use Rattle.event.specs.Run.{passwordOf, rightsNamed, isPin, isCan, nextStep}
 use Rattle.event.specs.declared.happening.Issuer.{Issuer}
 use Rattle.event.specs.declared.happening.Event.{Event}
-use Rattle.event.specs.declared.happening.Event.the-variants.{Refused, Lost, Chosen, StepPassed, Opened as IsOpened, RunClosed, TrialLost, Selected as IsSelected, LinkTaken, DvTaken, TerminalTaken, Announced as IsAnnounced, Challenged as IsChallenged, Proven as IsProven, ProofLost, ChipKeyChosen as IsChosen, Authenticated as IsAuthenticated, ChipLost, ReadAllowed, PinChanged, UnblockedByPuk, UnblockedByRight, Activated, Deactivated, NotPassed}
 use Rattle.event.specs.declared.course.Note.{Note}
 use Rattle.event.specs.declared.settle.Answered.{Answered}
 use Rattle.trust.specs.Trust.{anchorFits, pointsFit, knows, linked}
 use Rattle.trust.specs.declared.Points.{Points}
 use Rattle.fields.specs.declared.asked.Ask.{Ask}
-use Rattle.fields.specs.declared.asked.Ask.the-variants.{Choose, Verify, Announce}
 use Rattle.fields.specs.declared.asked.Request.the-variants.{Asks}
 use Rattle.fields.specs.declared.asked.Asked.{Asked}
 use Rattle.command.specs.declared.kind.Kind.{Kind}
@@ -45,25 +42,25 @@ use Rattle.session.specs.declared.Opened.the-variants.{Nobody, By}
 use Rattle.session.specs.declared.Reach.{Reach}
 use Rattle.session.specs.declared.Reach.the-variants.{Empty, ToDv, ToTerminal}
 use Rattle.session.specs.declared.Chain.{Chain}
-use Rattle.session.specs.declared.Selected.the-variants.{NoIssuer, Of as Chose}
+use Rattle.session.specs.declared.Selected.the-variants.{Of as Chose}
 use Rattle.session.specs.declared.Stage.{Stage}
 use Rattle.session.specs.declared.Stage.the-variants.{Idle, Run, Announced, Challenged, Proven, ChipKeyChosen, Authenticated}
 use Rattle.session.specs.declared.Context.{Context}
 use Rattle.session.specs.declared.Session.{Session}
-use Rattle.session.specs.Session.{openedByPin, openedByCan, hasRights, reachesDv, reachesTerminal, hasDv, hasTerminal, noChain, bareSession, noSession, atStage, announcedWith, chainedTo, selecting}
+use Rattle.session.specs.Session.{openedByPin, openedByCan, hasRights, reachesDv, reachesTerminal, hasDv, hasTerminal, noChain, bareSession, atStage, announcedWith, chainedTo}
 use Rattle.session.specs.Moment.{rank, told, unproven}
 use Rattle.session.specs.Fits.{grantedFits, rootFits, dvFits, terminalFits, reachFits, chainFits, runFits, stageFits, groundFits, contextFits}
 use Rattle.token.specs.declared.state.Token.{Token}
 use Rattle.token.specs.declared.state.Made.the-variants.{Accepted, Unfit}
 use Rattle.token.specs.declared.state.Personalised.{Personalised}
-use Rattle.token.specs.State.{tries, uses, withSession, withPin, withPuk, withActive, withToday, withPoints, resetOf, startOf, noToken, madeOf}
-use Rattle.token.specs.Limits.{selectable, inLimits}
+use Rattle.token.specs.State.{tries, uses, withSession, withPin, resetOf, startOf, noToken, madeOf}
+use Rattle.token.specs.Limits.{selectable}
 use Rattle.token.specs.Commands.{contextOf}
 use Rattle.token.specs.Certify.{chainOf}
-use Rattle.token.specs.After.{choiceTaken, staged, stepPassed, triesAfter, opened, runClosed, trialLost, issuerSelected, linkTaken, dvTaken, extended, todayAfter, terminalTaken, announced, unblocked, unblockedByPuk, activated, afterOf}
+use Rattle.token.specs.After.{choiceTaken, staged, stepPassed, triesAfter, opened, runClosed, trialLost, issuerSelected, linkTaken, dvTaken, extended, terminalTaken, announced, unblocked, unblockedByPuk, activated, afterOf}
 use Rattle.token.specs.Step.{Stepped, happenedOf, nextOf, stepOf}
 use Rattle.reply.specs.Reply.{room}
-use Rattle.reached.proofs.Fits.{Lim, limits-of, in-limits, certifying, Holds, as-newest, as-previous, Selects, to-newest, to-previous, to-dv, Fits, is-refused, is-lost, is-chosen, is-stepped, is-opened, is-closed, is-fell, is-selected, is-linked, is-deputed, is-completed, is-announced, is-challenged, is-proven, is-disproved, is-chip, is-authenticated, is-chip-lost, not-passed, is-read, is-changed, is-unblocked-puk, is-unblocked, is-activated, is-deactivated, fits}
+use Rattle.reached.proofs.Fits.{Lim, certifying, Holds, as-newest, as-previous, Selects, to-newest, to-previous, to-dv, Fits, is-refused, is-lost, is-chosen, is-stepped, is-opened, is-closed, is-fell, is-selected, is-linked, is-deputed, is-completed, is-announced, is-challenged, is-proven, is-disproved, is-chip, is-authenticated, is-chip-lost, not-passed, is-read, is-changed, is-unblocked-puk, is-unblocked, is-activated, is-deactivated, fits}
 
 -- ---- the rungs of a session
 

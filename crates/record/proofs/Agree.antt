@@ -1,18 +1,18 @@
 -- The token and the rule agree: an invariant between the token and the rule's own functions, kept by every event.
 -- Assumes nothing.
-use Prim.Native.Nat.{ℕ, suc, _+_}
+use Prim.Native.Nat.{ℕ, suc}
 use mathlib.Core.Bool.{Bool, true, false, cond, not, _&&_, _||_}
 use mathlib.Core.Path.{_≡_, refl, sym, ap, subst, _∙_}
 use mathlib.Core.Option.{Option, none, some}
 use mathlib.Core.List.{List, [], _∷_}
 use borrow.Author.Tests.{not-true}
-use lib.Dec.{eqb, leb, ltb}
-use Rattle.laws.proofs.Bools.{true-false, and-l, and-r, or-then, of-both}
+use lib.Dec.{eqb, leb}
+use Rattle.laws.proofs.Bools.{true-false, and-r, or-then}
 use Rattle.values.specs.Names.{sameName}
 use Rattle.values.specs.Rights.{roleOf, isDv}
 use Rattle.values.specs.Points.{noPoint, withKey}
 use Rattle.values.specs.Keys.{noKey}
-use Rattle.values.proofs.Kept.{same-for, same-turned}
+use Rattle.values.proofs.Kept.{same-for}
 use Rattle.values.specs.declared.name.Name.{Name}
 use Rattle.values.specs.declared.key.Key.{Key}
 use Rattle.values.specs.declared.day.Day.{Day}
@@ -21,19 +21,16 @@ use Rattle.values.specs.declared.rights.Rights.{Rights}
 use Rattle.values.specs.declared.rights.Role.{Role}
 use Rattle.values.specs.declared.rights.Role.the-variants.{Cvca, OfficialDv, OtherDv, Terminal}
 use Rattle.values.specs.declared.rights.Granted.{Granted}
-use Rattle.values.specs.declared.rights.Granted.the-variants.{These, NoRights}
+use Rattle.values.specs.declared.rights.Granted.the-variants.{NoRights}
 use Rattle.event.specs.declared.run.Password.{Password}
 use Rattle.event.specs.declared.run.Choice.{Choice}
 use Rattle.event.specs.declared.run.Step.{Step}
 use Rattle.event.specs.declared.run.Step.the-variants.{Nonce, Map, Agree, Confirm}
 use Rattle.event.specs.Run.{passwordOf, rightsNamed, isLast, nextStep}
 use Rattle.event.specs.declared.happening.Event.{Event}
-use Rattle.event.specs.declared.course.Note.{Note}
-use Rattle.event.specs.declared.settle.Answered.{Answered}
 use Rattle.trust.specs.Trust.{anchorFits, pointsFit, linked}
 use Rattle.trust.specs.declared.Points.{Points}
 use Rattle.fields.specs.declared.asked.Asked.{Asked}
-use Rattle.fields.specs.Asked.{askedOf}
 use Rattle.session.specs.declared.Opened.{Opened}
 use Rattle.session.specs.declared.Opened.the-variants.{Nobody, By}
 use Rattle.session.specs.declared.Reach.{Reach}
@@ -42,17 +39,16 @@ use Rattle.session.specs.declared.Chain.{Chain}
 use Rattle.session.specs.declared.Stage.{Stage}
 use Rattle.session.specs.declared.Stage.the-variants.{Idle, Run, Announced as AtAnnounced, Challenged as AtChallenged, Proven as AtProven, ChipKeyChosen as AtChosen, Authenticated as AtAuthenticated}
 use Rattle.session.specs.declared.Context.{Context}
-use Rattle.session.specs.declared.Session.{Session}
-use Rattle.session.specs.Session.{reachesDv, hasRights, hasDv, hasTerminal, noChain, bareSession, atStage}
+use Rattle.session.specs.Session.{reachesDv, hasRights, hasDv, hasTerminal, noChain, bareSession}
 use Rattle.session.specs.Moment.{rank, told, unproven, isAuthenticated}
 use Rattle.token.specs.declared.state.Token.{Token}
 use Rattle.token.specs.State.{resetOf, startOf}
 use Rattle.token.specs.Commands.{contextOf}
 use Rattle.token.specs.Certify.{chainOf}
 use Rattle.token.specs.After.{choiceTaken, staged, stepPassed, opened, runClosed, trialLost, issuerSelected, linkTaken, dvTaken, extended, terminalTaken, announced, unblocked, unblockedByPuk, activated, afterOf}
-use Rattle.reached.proofs.Fits.{Lim, limits-of, in-limits, certifying, Holds, as-newest, as-previous, Quiet, verifying, challenging, changing, Fits, is-refused, is-lost, is-chosen, is-stepped, is-opened, is-closed, is-fell, is-selected, is-linked, is-deputed, is-completed, is-announced, is-challenged, is-proven, is-disproved, is-chip, is-authenticated, is-chip-lost, not-passed, is-read, is-changed, is-unblocked-puk, is-unblocked, is-activated, is-deactivated, fits}
-use Rattle.record.specs.Rule.{Fact, Taken, StepPassed, ChipPassed, Accepted, Announced, Challenged, Proved, Disproved, Lost, Nothing, requestFact, factBy, factOf, factsOf, Anchor, Held, linkedBy, held, rightsIn, lastChoice, steps, naming, named, ruleA, Dv, Trio, under, lastDv, ruleB, orElse, dvBy, announcement, challenge, ruleC, ruleD, inAll, ruleE, readable}
-use Rattle.record.specs.Claim.{anchorOf, anchors}
+use Rattle.reached.proofs.Fits.{Lim, Holds, as-newest, as-previous, Fits, is-refused, is-lost, is-chosen, is-stepped, is-opened, is-closed, is-fell, is-selected, is-linked, is-deputed, is-completed, is-announced, is-challenged, is-proven, is-disproved, is-chip, is-authenticated, is-chip-lost, not-passed, is-read, is-changed, is-unblocked-puk, is-unblocked, is-activated, is-deactivated}
+use Rattle.record.specs.Rule.{Fact, Taken, StepPassed, ChipPassed, Accepted, Announced, Challenged, Proved, Disproved, Lost, Nothing, Held, linkedBy, held, rightsIn, lastChoice, steps, naming, named, ruleA, Dv, Trio, under, lastDv, ruleB, orElse, dvBy, announcement, challenge, ruleC, ruleD}
+use Rattle.record.specs.Claim.{anchors}
 use Rattle.record.proofs.Words.{factAt}
 
 -- ---- what a session holds, in the rule's terms

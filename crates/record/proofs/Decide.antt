@@ -1,32 +1,28 @@
 -- The record decides: the claims, for every record. Assumes nothing.
-use Prim.Native.Nat.{ℕ, _+_, _-_, _≤_, _<_}
+use Prim.Native.Nat.{ℕ, _+_, _-_, _≤_}
 use mathlib.Core.Bool.{Bool, true, false, cond, not, _&&_, _||_}
 use mathlib.Core.Path.{_≡_, refl, sym, ap, subst, _∙_}
-use mathlib.Core.Option.{Option, none, some}
 use mathlib.Core.List.{List, [], _∷_}
 use native.Mathlib.Omega.{arith}
 use borrow.Author.Tests.{le-ltb, le-leb}
-use lib.Dec.{eqb, leb, ltb}
+use lib.Dec.{ltb}
 use lib.ListN.{length}
-use Rattle.laws.proofs.Bools.{true-false, and-l, and-r, or-then, of-both}
+use Rattle.laws.proofs.Bools.{true-false, and-l, and-r, or-then}
 use Rattle.values.specs.Keys.{keyStands}
 use Rattle.values.specs.Rights.{hasRight, readsGroup}
-use Rattle.values.specs.declared.day.Day.{Day}
 use Rattle.values.specs.declared.point.Point.{Point}
 use Rattle.values.specs.declared.rights.Rights.{Rights}
 use Rattle.values.specs.declared.rights.Granted.{Granted}
 use Rattle.values.specs.declared.rights.Granted.the-variants.{These, NoRights}
 use Rattle.values.specs.declared.word.Word.{Word}
-use Rattle.values.specs.declared.word.Word.the-variants.{Done, Outside as W6F00}
+use Rattle.values.specs.declared.word.Word.the-variants.{Outside as W6F00}
 use Rattle.command.specs.declared.kind.Kind.the-variants.{Read as KindRead}
 use Rattle.command.specs.declared.Shape.{Shape}
 use Rattle.command.specs.declared.Shape.the-variants.{Command}
 use Rattle.command.specs.Form.{formOf, afterHeader, bodyOf, extendedOf}
-use Rattle.command.specs.Kind.{kindOf, readOf}
+use Rattle.command.specs.Kind.{kindOf}
 use Rattle.command.specs.Shape.{shapeOf, headedOf}
-use Rattle.command.specs.declared.kind.Asked.{Asked as Kinded}
 use Rattle.command.specs.declared.kind.Asked.the-variants.{For}
-use Rattle.event.specs.declared.run.Password.{Password}
 use Rattle.event.specs.Run.{isCan}
 use Rattle.event.specs.declared.happening.Event.{Event}
 use Rattle.event.specs.declared.happening.Event.the-variants.{ReadAllowed, Refused, Lost}
@@ -35,13 +31,11 @@ use Rattle.event.specs.declared.happening.Loss.the-variants.{Broken}
 use Rattle.event.specs.declared.course.Guard.the-variants.{Passes, Drops}
 use Rattle.event.specs.Event.{wordOf}
 use Rattle.event.specs.declared.course.Note.the-variants.{Protected}
-use Rattle.event.specs.declared.course.Plan.{Plan}
 use Rattle.event.specs.declared.settle.Answered.{Answered}
 use Rattle.event.specs.declared.settle.Happened.{Happened}
 use Rattle.event.specs.Course.{settledBy}
 use Rattle.event.specs.Settle.{endsBy, courseOf, settleOf}
 use Rattle.order.specs.Order.{grounded}
-use Rattle.trust.specs.declared.Points.{Points}
 use Rattle.fields.specs.Given.{only}
 use Rattle.fields.specs.Asked.{askedOf, askedBy, asking, dataOf}
 use Rattle.fields.specs.declared.asked.Ask.the-variants.{Read as AskRead}
@@ -52,28 +46,25 @@ use Rattle.session.specs.declared.Opened.{Opened}
 use Rattle.session.specs.declared.Opened.the-variants.{Nobody, By}
 use Rattle.session.specs.declared.Reach.{Reach}
 use Rattle.session.specs.declared.Reach.the-variants.{Empty, ToDv, ToTerminal}
-use Rattle.session.specs.declared.Chain.{Chain}
 use Rattle.session.specs.declared.Stage.{Stage}
 use Rattle.session.specs.declared.Stage.the-variants.{Idle, Run, Announced as AtAnnounced, Challenged as AtChallenged, Proven as AtProven, ChipKeyChosen as AtChosen, Authenticated as AtAuthenticated}
 use Rattle.session.specs.declared.Context.{Context}
 use Rattle.session.specs.Session.{isOpen, openedByPin, openedByCan, hasRights, hasTerminal, reachesTerminal}
 use Rattle.session.specs.Moment.{noRun, told, isAuthenticated, momentOf}
-use Rattle.session.specs.Authorization.{rootOf, confirmedOf, sharedBy, authorization}
+use Rattle.session.specs.Authorization.{rootOf, confirmedOf, authorization}
 use Rattle.session.proofs.Authorizes.{shared-right, effective-right}
 use Rattle.token.specs.declared.state.Token.{Token}
-use Rattle.token.specs.declared.state.Made.the-variants.{Accepted}
-use Rattle.token.specs.State.{startOf, resetOf, madeOf}
 use Rattle.token.specs.Limits.{inLimits}
 use Rattle.token.specs.Commands.{contextOf, readPlan}
 use Rattle.token.specs.Plan.{commandOf, timedOf, requestedOf, guarded, planOf}
 use Rattle.token.specs.Step.{Stepped, happenedOf, nextOf, endedBy, stepOf}
-use Rattle.reached.proofs.Fits.{Lim, limits-of, in-limits, fits}
+use Rattle.reached.proofs.Fits.{Lim, in-limits, fits}
 use Rattle.reached.proofs.Within.{Ctx, context-of, reset-in, step-in, made-in}
 use Rattle.record.specs.Entries.{Exchange, Entry, Reset, Sent, prescribed, after, reached, Shown, shownAt, shown}
-use Rattle.record.specs.Rule.{Fact, Nothing, factBy, factOf, factsOf, requestFact, Held, ruleA, ruleB, ruleC, ruleD, ruleE, Trio, naming, inAll, agrees, readable}
+use Rattle.record.specs.Rule.{Fact, factBy, factOf, factsOf, requestFact, Held, ruleA, ruleB, ruleE, readable}
 use Rattle.record.specs.Claim.{begun, anchors, ReadOf, short, extended, ReadsNow, recordSays, Decides, Claim, ClaimWithin}
 use Rattle.record.proofs.Words.{fact-of}
-use Rattle.record.proofs.Agree.{proven, confirmedBy, trioOf, Inv, Agrees, quiet, keep, reset-keeps, start-agrees}
+use Rattle.record.proofs.Agree.{proven, confirmedBy, trioOf, Agrees, quiet, keep, reset-keeps, start-agrees}
 
 -- ---- along a record
 

@@ -1,13 +1,9 @@
 -- The same said of the code: whatever `Token::step` and `Token::reset` hand back is the definition's, so a token that was run step
 -- by step answers as the record says. Assumes nothing.
 use Prim.Native.Nat.{ℕ, _≤_}
-use mathlib.Core.Bool.{Bool, true, false, cond}
 use mathlib.Core.Path.{_≡_, refl, sym, ap, subst, _∙_}
 use mathlib.Core.List.{List, [], _∷_}
-use lib.ListN.{length}
 use Rattle.values.specs.declared.day.Day.{Day}
-use Rattle.values.specs.declared.word.Word.{Word}
-use Rattle.values.specs.declared.word.Word.the-variants.{Done}
 use Rattle.trust.specs.declared.Points.{Points}
 use Rattle.token.specs.declared.state.Token.{Token}
 use Rattle.token.specs.declared.state.Made.the-variants.{Accepted}

@@ -1,7 +1,7 @@
 -- What the rule reads at the word of each event. Assumes nothing.
 use Prim.Native.Nat.{ℕ, _-_}
 use mathlib.Core.Bool.{Bool, true, false, cond, _&&_}
-use mathlib.Core.Path.{_≡_, refl, sym, ap, _∙_}
+use mathlib.Core.Path.{_≡_, refl, ap, _∙_}
 use lib.Dec.{ltb}
 use Rattle.values.specs.declared.key.Key.{Key}
 use Rattle.values.specs.declared.point.Point.{Point}
@@ -19,7 +19,7 @@ use Rattle.event.specs.Event.{refusalWord, lossWord, wordOf}
 use Rattle.fields.specs.declared.asked.Request.{Request}
 use Rattle.fields.specs.declared.asked.Asked.{Asked}
 use Rattle.token.specs.declared.state.Token.{Token}
-use Rattle.reached.proofs.Fits.{Lim, limits-of, in-limits, certifying, Holds, as-newest, as-previous, Quiet, verifying, challenging, changing, Fits, is-refused, is-lost, is-chosen, is-stepped, is-opened, is-closed, is-fell, is-selected, is-linked, is-deputed, is-completed, is-announced, is-challenged, is-proven, is-disproved, is-chip, is-authenticated, is-chip-lost, not-passed, is-read, is-changed, is-unblocked-puk, is-unblocked, is-activated, is-deactivated, fits}
+use Rattle.reached.proofs.Fits.{verifying, challenging, changing, Fits, is-refused, is-lost, is-chosen, is-stepped, is-opened, is-closed, is-fell, is-selected, is-linked, is-deputed, is-completed, is-announced, is-challenged, is-proven, is-disproved, is-chip, is-authenticated, is-chip-lost, not-passed, is-read, is-changed, is-unblocked-puk, is-unblocked, is-activated, is-deactivated}
 use Rattle.record.specs.Rule.{Fact, Taken, StepPassed, ChipPassed, Accepted, Announced, Challenged, Proved, Disproved, Lost, Nothing, requestFact, factBy}
 
 -- the fact of an event

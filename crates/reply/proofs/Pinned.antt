@@ -1,9 +1,10 @@
 -- Any two outcomes of `reply` that its contract permits are equal. Assumes nothing.
 use Prim.Native.Nat.{ℕ}
 use mathlib.Core.Bool.{Bool}
-use mathlib.Core.Path.{_≡_, sym, _∙_}
+use mathlib.Core.Path.{_≡_}
 use mathlib.Core.List.{List}
 use lib.ListN.{length}
+use Rattle.laws.proofs.Pinned.{pinned}
 use Rattle.values.specs.declared.name.Name.{Name}
 use Rattle.reply.specs.declared.Layout.{Layout}
 use Rattle.reply.specs.Lay.{Written}
@@ -13,4 +14,4 @@ pub reply-pinned : (layout : Layout) (word : ℕ) (first out : List ℕ) (newest
     → Written (replyOf (length out) layout word first newest previous two) out o r
     → Written (replyOf (length out) layout word first newest previous two) out p q
     → (r ≡ q) × (o ≡ p)
-reply-pinned layout word first out newest previous two r q o p a b = (a .0 ∙ sym (b .0), a .1 ∙ sym (b .1))
+reply-pinned layout word first out newest previous two r q o p a b = (pinned _ r q (a .0) (b .0), pinned _ o p (a .1) (b .1))

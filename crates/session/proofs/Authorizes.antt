@@ -5,12 +5,10 @@ use native.Mathlib.Nat.{zero-div}
 use mathlib.Core.Bool.{Bool, true, false, cond, not, _&&_}
 use mathlib.Core.Path.{_≡_, refl, sym, ap, _∙_}
 use borrow.Author.Tests.{eq-eqb, ne-eqb}
-use lib.Dec.{eqb}
-use Rattle.values.specs.Rights.{low, common, hasBit, hasRight}
+use Rattle.values.specs.Rights.{low, common, hasRight}
 use Rattle.values.proofs.Bits.{common-right}
 use Rattle.values.specs.declared.rights.Rights.{Rights}
 use Rattle.values.specs.declared.rights.Granted.{Granted}
-use Rattle.values.specs.declared.rights.Granted.the-variants.{These}
 use Rattle.session.specs.declared.Reach.{Reach}
 use Rattle.session.specs.declared.Chain.{Chain}
 use Rattle.session.specs.declared.Context.{Context}

@@ -1,8 +1,8 @@
 -- Sessions and the limits of their parts, over plain values. Assumes nothing.
 use borrow.Author.Needs.{needs}
 use Prim.Native.Nat.{ℕ}
-use mathlib.Core.Bool.{Bool, true, false, not, _&&_, _||_}
-use mathlib.Core.Path.{_≡_, refl, sym, ap, _∙_}
+use mathlib.Core.Bool.{Bool, true, not, _&&_, _||_}
+use mathlib.Core.Path.{_≡_, sym, ap}
 use lib.Dec.{leb, eqb}
 use Rattle.values.specs.Rights.{rightsFit, roleOf, isCvca, isDv, isTerminal}
 use Rattle.values.specs.Points.{noPoint, pointFits}
@@ -26,8 +26,8 @@ use Rattle.session.specs.declared.Stage.{Stage}
 use Rattle.session.specs.declared.Stage.the-variants.{Idle, Run}
 use Rattle.session.specs.declared.Context.{Context}
 use Rattle.session.specs.declared.Session.{Session}
-use Rattle.session.specs.Session.{openedByPin, openedByCan, hasRights, hasDv, hasTerminal, noChain, bareSession, noSession, chainedTo}
-use Rattle.session.specs.Moment.{rank, told}
+use Rattle.session.specs.Session.{openedByPin, openedByCan, hasRights, hasDv, hasTerminal, noChain, bareSession, chainedTo}
+use Rattle.session.specs.Moment.{rank}
 use Rattle.session.specs.Fits.{grantedFits, rootFits, dvFits, terminalFits, reachFits, chainFits, runFits, stageFits, groundFits, contextFits}
 
 -- ---- sessions

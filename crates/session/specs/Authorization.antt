@@ -1,6 +1,6 @@
 -- "Effective authorization is the bitwise AND of the low 38 bits of trust point, DV, terminal and confirmed rights, once
 -- authenticated; zero otherwise, and zero if the CAN opened and bit 4 is missing from it." Assumes nothing: these are definitions.
-use mathlib.Core.Bool.{Bool, cond, not, _&&_}
+use mathlib.Core.Bool.{cond, not, _&&_}
 use Rattle.values.specs.Rights.{common, hasRight}
 use Rattle.values.specs.declared.rights.Rights.{Rights}
 use Rattle.values.specs.declared.rights.Granted.{Granted}

@@ -1,6 +1,6 @@
 -- "A state is outside its limits exactly when": the rungs that a session has. Assumes nothing: these are definitions.
 use Prim.Native.Nat.{ℕ}
-use mathlib.Core.Bool.{Bool, true, false, not, _&&_, _||_}
+use mathlib.Core.Bool.{Bool, true, not, _&&_, _||_}
 use lib.Dec.{eqb}
 use Rattle.values.specs.Rights.{rightsFit, roleOf, isCvca, isDv, isTerminal}
 use Rattle.values.specs.Points.{pointFits}

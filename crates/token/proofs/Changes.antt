@@ -1,8 +1,8 @@
 -- Each event's change, over plain values. Assumes nothing.
 use borrow.Author.Needs.{needs}
 use Prim.Native.Nat.{ℕ, _-_}
-use mathlib.Core.Bool.{Bool, true, false, cond}
-use mathlib.Core.Path.{_≡_, refl, sym, ap, _∙_}
+use mathlib.Core.Bool.{Bool, true, false}
+use mathlib.Core.Path.{_≡_, sym, ap, _∙_}
 use Rattle.values.specs.Days.{later}
 use Rattle.values.specs.Rights.{roleOf, isOfficial}
 use Rattle.values.specs.Points.{noPoint}
@@ -17,7 +17,7 @@ use Rattle.event.specs.declared.run.Choice.{Choice}
 use Rattle.event.specs.declared.run.Password.{Password}
 use Rattle.event.specs.declared.run.Step.{Step}
 use Rattle.event.specs.declared.run.Step.the-variants.{Nonce}
-use Rattle.event.specs.Run.{passwordOf, rightsNamed, isPin, nextStep}
+use Rattle.event.specs.Run.{passwordOf, rightsNamed, nextStep}
 use Rattle.event.specs.declared.happening.Issuer.{Issuer}
 use Rattle.event.specs.declared.happening.Event.{Event}
 use Rattle.trust.specs.Trust.{linked}
@@ -31,8 +31,8 @@ use Rattle.session.specs.declared.Stage.the-variants.{Idle, Run}
 use Rattle.session.specs.declared.Session.{Session}
 use Rattle.session.specs.Session.{noChain, bareSession, atStage, announcedWith, chainedTo, selecting}
 use Rattle.token.specs.declared.state.Token.{Token}
-use Rattle.token.specs.State.{tries, withSession, withPin, withPuk, withActive, withToday, withPoints}
-use Rattle.token.specs.After.{choiceTaken, staged, stepPassed, triesAfter, opened, runClosed, trialLost, issuerSelected, linkTaken, dvTaken, extended, todayAfter, terminalTaken, announced, unblocked, unblockedByPuk, activated, afterOf}
+use Rattle.token.specs.State.{tries, withSession, withPin, withPuk, withToday, withPoints}
+use Rattle.token.specs.After.{choiceTaken, staged, stepPassed, triesAfter, opened, runClosed, trialLost, issuerSelected, linkTaken, dvTaken, extended, todayAfter, terminalTaken, announced, unblockedByPuk, afterOf}
 
 pub extended-arm : (x d r : Reach) → x ≡ d → r ≡ extended d → r ≡ extended x
 extended-arm x d r e z = z ∙ ap extended (sym e)

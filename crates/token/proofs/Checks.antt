@@ -1,8 +1,8 @@
 -- Each command's own checks, over plain values. Assumes nothing.
 use borrow.Author.Needs.{needs}
 use Prim.Native.Nat.{ℕ}
-use mathlib.Core.Bool.{Bool, true, false, cond, not, _&&_, _||_}
-use mathlib.Core.Path.{_≡_, refl, sym, ap, _∙_}
+use mathlib.Core.Bool.{Bool, true, false, not, _&&_, _||_}
+use mathlib.Core.Path.{_≡_, sym, ap, _∙_}
 use lib.Dec.{eqb}
 use Rattle.values.specs.Names.{sameName}
 use Rattle.values.specs.Points.{noPoint, expired}
@@ -17,7 +17,7 @@ use Rattle.event.specs.declared.run.Choice.{Choice}
 use Rattle.event.specs.declared.run.Password.{Password}
 use Rattle.event.specs.declared.run.Step.{Step}
 use Rattle.event.specs.Run.{passwordOf, isPin, isPuk, stepNumber}
-use Rattle.event.specs.declared.happening.Refusal.the-variants.{Lacking, Moment, Data, NotFound}
+use Rattle.event.specs.declared.happening.Refusal.the-variants.{Lacking, Data, NotFound}
 use Rattle.event.specs.declared.happening.Issuer.{Issuer}
 use Rattle.event.specs.declared.happening.Issuer.the-variants.{Dv}
 use Rattle.event.specs.declared.happening.Event.{Event}
@@ -40,7 +40,7 @@ use Rattle.session.specs.Authorization.{authorization}
 use Rattle.token.specs.declared.state.Token.{Token}
 use Rattle.token.specs.State.{tries}
 use Rattle.token.specs.Commands.{contextOf, isFor, choosePlan, runPlan, chipPlan, generalPlan, announcePlan, readPlan, changePlan, unblockPlan, activePlan}
-use Rattle.token.specs.Certify.{chainOf, selectBy, selectPlan, repeats, late, heldCourse, underCourse, underPlan, verifyPlan}
+use Rattle.token.specs.Certify.{chainOf, selectPlan, repeats, late, heldCourse, underCourse, underPlan, verifyPlan}
 
 pub is-step : (x : Content) (p q : Step) (a b : ℕ) → x ≡ StepData q → a ≡ stepNumber q → b ≡ stepNumber p → eqb a b ≡ isFor x p
 is-step x p q a b e f g = rw (e, f, g)

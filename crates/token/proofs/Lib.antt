@@ -3,3 +3,4 @@ pub mod Changes
 pub mod Checks
 pub mod Orders
 pub mod Ends
+pub mod Pinned

@@ -1,11 +1,10 @@
 -- The order of the checks, one lemma a way out. Assumes nothing.
 use borrow.Author.Needs.{needs}
 use Prim.Native.Nat.{ℕ}
-use mathlib.Core.Bool.{Bool, true, false, cond, not}
-use mathlib.Core.Path.{_≡_, refl, sym, ap, _∙_}
+use mathlib.Core.Bool.{Bool, true, false, not}
+use mathlib.Core.Path.{_≡_, sym, ap, _∙_}
 use mathlib.Core.List.{List}
 use Rattle.command.specs.declared.kind.Kind.{Kind}
-use Rattle.event.specs.declared.happening.Refusal.{Refusal}
 use Rattle.event.specs.declared.happening.Refusal.the-variants.{Moment, Outside}
 use Rattle.event.specs.declared.happening.Loss.{Loss}
 use Rattle.event.specs.declared.happening.Event.the-variants.{Refused, Lost}
@@ -13,12 +12,10 @@ use Rattle.event.specs.declared.course.Note.{Note}
 use Rattle.event.specs.declared.course.Guard.{Guard}
 use Rattle.event.specs.declared.course.Guard.the-variants.{Passes, Drops}
 use Rattle.event.specs.declared.course.Job.{Job}
-use Rattle.event.specs.declared.course.Course.{Course}
 use Rattle.event.specs.declared.course.Plan.{Plan}
 use Rattle.event.specs.Course.{settledBy, guardOf, courseJob}
 use Rattle.fields.specs.declared.asked.Ask.{Ask}
 use Rattle.fields.specs.declared.asked.Request.{Request}
-use Rattle.fields.specs.declared.asked.Request.the-variants.{Refused as Faulty, Asks}
 use Rattle.fields.specs.declared.asked.Asked.{Asked}
 use Rattle.fields.specs.Asked.{askedOf}
 use Rattle.session.specs.Session.{isOpen}

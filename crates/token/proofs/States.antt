@@ -1,7 +1,7 @@
 -- Personalisation, reset and limits, over plain values. Assumes nothing.
 use borrow.Author.Needs.{needs}
-use mathlib.Core.Bool.{Bool, true, false, cond, not, _&&_}
-use mathlib.Core.Path.{_≡_, refl, sym, ap, _∙_}
+use mathlib.Core.Bool.{Bool, true, false, not, _&&_}
+use mathlib.Core.Path.{_≡_, ap, _∙_}
 use lib.Dec.{leb}
 use Rattle.values.specs.Days.{dayFits}
 use Rattle.values.specs.Points.{noPoint}

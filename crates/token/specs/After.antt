@@ -20,7 +20,6 @@ use Rattle.trust.specs.Trust.{linked}
 use Rattle.session.specs.declared.Opened.the-variants.{By}
 use Rattle.session.specs.declared.Reach.{Reach}
 use Rattle.session.specs.declared.Reach.the-variants.{Empty, ToDv, ToTerminal}
-use Rattle.session.specs.declared.Chain.{Chain}
 use Rattle.session.specs.declared.Stage.{Stage}
 use Rattle.session.specs.declared.Stage.the-variants.{Idle, Run, Announced, Challenged, Proven, ChipKeyChosen, Authenticated}
 use Rattle.session.specs.Session.{noChain, bareSession, atStage, announcedWith, chainedTo, selecting}

@@ -1,7 +1,6 @@
 // All checks before the verdict, in document 01's order.
 ghost use mathlib.Core.Path.{_≡_};
 ghost use Rattle.event.specs.Course.{courseJob};
-ghost use Rattle.fields.specs.Asked.{askedOf};
 ghost use Rattle.token.specs.Plan.{commandOf, timedOf, requestedOf, planOf};
 use super::state::Token;
 use command::kind::Kind;

@@ -1,7 +1,7 @@
 -- The trust points, over plain values. Assumes nothing.
 use borrow.Author.Needs.{needs}
-use mathlib.Core.Bool.{Bool, true, false, cond, not, _&&_, _||_}
-use mathlib.Core.Path.{_≡_, refl, sym, ap, _∙_}
+use mathlib.Core.Bool.{Bool, true, false, not, _&&_, _||_}
+use mathlib.Core.Path.{_≡_}
 use Rattle.values.specs.Names.{sameName}
 use Rattle.values.specs.Rights.{roleOf, isCvca}
 use Rattle.values.specs.Points.{noPoint, pointFits}
@@ -11,7 +11,6 @@ use Rattle.values.specs.declared.rights.Role.{Role}
 use Rattle.event.specs.declared.happening.Issuer.the-variants.{Newest, Previous}
 use Rattle.trust.specs.Trust.{anchorFits, onePoint, pointsFit, knows, found}
 use Rattle.trust.specs.declared.Points.{Points}
-use Rattle.trust.specs.declared.Anchor.{Anchor}
 use Rattle.trust.specs.declared.Anchor.the-variants.{Is, Unknown}
 
 pub anchor-is : (p : Point) (a b : Bool) (r : Role) → a ≡ pointFits p → r ≡ roleOf (p .rights) → b ≡ isCvca r → a && b ≡ anchorFits p

@@ -1,15 +1,15 @@
 -- The AND of rights values and its bits. Assumes nothing.
-use Prim.Native.Nat.{ℕ, zero, suc, _+_, _-_, _*_, _/_, _%_, _^_, _<_, _≤_, min}
+use Prim.Native.Nat.{ℕ, zero, suc, _+_, _-_, _*_, _/_, _%_, _^_, _<_, min}
 use mathlib.Core.Path.{_≡_, refl, ap, sym, _∙_}
 use mathlib.Core.Bool.{Bool, true, false, not, cond, _&&_}
 use native.Mathlib.Nat.{mod-one, mod-lt, mod-mod, pow-suc, min-le-left, lt-of-le-of-lt, zero-lt-suc, zero-mul, one-mul}
 use native.Mathlib.Numerals.{add-one, one-add}
-use borrow.Author.Tests.{ne-eqb, le-leb, lt-leb}
+use borrow.Author.Tests.{ne-eqb}
 use native.Mathlib.Omega.{arith}
 use lib.Arith.{digits-div, digits-mod, mod-mul}
 use lib.Pow.{pow-pos, field, mod-mod-pow}
 use lib.Bits.{bitAnd, and-step, and-shr, and-mod, and-high, and-mask}
-use lib.Dec.{eqb, leb}
+use lib.Dec.{eqb}
 use Rattle.values.specs.Bytes.{among}
 use Rattle.values.specs.Rights.{low, hasBit, hasRight, andOf, common, groupMask, readsGroup}
 use Rattle.values.specs.declared.rights.Rights.{Rights}

@@ -1,28 +1,25 @@
 -- What the tests of a name, a day, rights and a key say of their definitions. Assumes nothing.
 use borrow.Author.Needs.{needs}
-use Prim.Native.Nat.{ℕ, _+_, _-_, _%_, _^_, _≤_, _<_, min}
-use native.Mathlib.Omega.{arith}
+use Prim.Native.Nat.{ℕ, _-_, _%_, _^_, _≤_, _<_, min}
 use mathlib.Core.Path.{_≡_, refl, sym, ap, _∙_}
-use mathlib.Core.Bool.{Bool, true, false, cond, not, _&&_}
-use mathlib.Core.List.{List, _++_}
+use mathlib.Core.Bool.{Bool, true, false, not, _&&_}
+use mathlib.Core.List.{List}
 use borrow.Author.Tests.{eq-eqb, ne-eqb, le-leb, lt-leb, lt-ltb, le-ltb, not-true, not-false}
-use lib.Dec.{eqb, leb, ltb}
+use lib.Dec.{leb}
 use lib.ListN.{length, take, drop, replicate}
-use lib.Seq.{drop-drop, take-take}
 use Rattle.laws.proofs.Bools.{and-no}
 use Rattle.laws.proofs.Lists.{from, take-clip}
-use Rattle.values.specs.Bytes.{eqbs, among, allOf, number, copiedInto}
-use Rattle.values.specs.Names.{isName, nameOf, noName, nameBytes, nameFits, sameName}
+use Rattle.values.specs.Bytes.{eqbs, allOf, number, copiedInto}
+use Rattle.values.specs.Names.{isName, nameOf, noName, nameFits, sameName}
 use Rattle.values.specs.Days.{isDate, dayFits, isDay, dated, before, later}
 use Rattle.values.specs.Rights.{width, rightsFit, template, isRights, granted, isCvca, isTerminal, isDv}
-use Rattle.values.specs.Keys.{keyOf, noKey, keyIs}
+use Rattle.values.specs.Keys.{keyOf, keyIs}
 use Rattle.values.specs.Points.{noPoint, pointFits}
 use Rattle.values.specs.Words.{number as numberOf}
 use Rattle.values.specs.declared.bytes.Class.the-variants.{Letter, Latin, Serial, Digit}
 use Rattle.values.specs.declared.name.Name.{Name}
 use Rattle.values.specs.declared.day.Day.{Day}
 use Rattle.values.specs.declared.day.Dated.the-variants.{On, NoDay}
-use Rattle.values.specs.declared.rights.Rights.{Rights}
 use Rattle.values.specs.declared.rights.Role.{Role}
 use Rattle.values.specs.declared.rights.Granted.the-variants.{These, NoRights}
 use Rattle.values.specs.declared.key.Key.{Key}

@@ -1,10 +1,10 @@
 -- What is kept of good bytes is good, and is those bytes. Assumes nothing.
-use Prim.Native.Nat.{ℕ, _+_, _%_, _^_, _≤_, _<_, min}
+use Prim.Native.Nat.{ℕ, _^_, _≤_, min}
 use native.Mathlib.Omega.{arith}
 use native.Mathlib.Nat.{mod-lt}
-use mathlib.Core.Path.{_≡_, refl, sym, ap, _∙_}
-use mathlib.Core.Bool.{Bool, true, false, _&&_}
-use mathlib.Core.List.{List, _++_}
+use mathlib.Core.Path.{_≡_, refl, sym, _∙_}
+use mathlib.Core.Bool.{Bool, true, false}
+use mathlib.Core.List.{List}
 use borrow.Author.Tests.{leb-true, le-leb, lt-ltb}
 use lib.Dec.{leb, eqb}
 use lib.Pow.{pow-pos}
@@ -13,12 +13,11 @@ use lib.Seq.{take-append-le, take-all}
 use Rattle.laws.proofs.Bools.{and-l, and-r}
 use Rattle.values.specs.Bytes.{among, allOf, copiedInto}
 use Rattle.values.specs.Names.{isName, nameOf, nameBytes, nameFits, sameName}
-use Rattle.values.specs.Days.{isDate, isDay, dayOf, dayFits}
+use Rattle.values.specs.Days.{isDay, dayOf, dayFits}
 use Rattle.values.specs.Rights.{width, rightsOf, rightsFit}
 use Rattle.values.specs.Keys.{isKey, keyOf, keyBytes, keyFits, keyStands}
 use Rattle.values.specs.declared.bytes.Class.the-variants.{Digit}
 use Rattle.values.specs.declared.name.Name.{Name}
-use Rattle.values.specs.declared.rights.Rights.{Rights}
 use Rattle.values.proofs.Strings.{eqbs-true, eqbs-refl}
 
 -- a string copied to the start of an array with room for it

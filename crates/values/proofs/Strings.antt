@@ -2,7 +2,7 @@
 use Prim.Native.Nat.{ℕ, suc, _+_, _<_}
 use native.Mathlib.Numerals.{add-one}
 use mathlib.Core.Path.{_≡_, refl, sym, ap, _∙_}
-use mathlib.Core.Bool.{Bool, true, false, not, _&&_}
+use mathlib.Core.Bool.{Bool, true, false, not}
 use mathlib.Core.List.{List, [], _∷_}
 use borrow.Author.Tests.{eq-eqb, ne-eqb, eqb-true, not-true, not-false}
 use lib.Dec.{eqb}

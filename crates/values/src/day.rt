@@ -1,7 +1,6 @@
 // Days.
 ghost use mathlib.Core.Path.{_≡_};
 ghost use Prim.Native.Nat.{_+_, _*_, _≤_};
-ghost use lib.Dec.{ltb};
 ghost use lib.ListN.{length};
 ghost use Rattle.values.specs.Bytes.{number};
 ghost use Rattle.values.specs.Days.{isDate, dayFits, dated, before, later};

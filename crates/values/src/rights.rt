@@ -1,6 +1,6 @@
 // Rights of 40 bits: the role in the top two, a right in each of the others.
 ghost use mathlib.Core.Path.{_≡_};
-ghost use Prim.Native.Nat.{_+_, _*_, _≤_, _^_};
+ghost use Prim.Native.Nat.{_+_, _*_, _≤_};
 ghost use lib.ListN.{length};
 ghost use Rattle.values.specs.Bytes.{number};
 ghost use Rattle.values.specs.Rights.{rightsFit, roleOf, granted, common, hasRight, groupMask, readsGroup, isCvca, isOfficial, isTerminal, isDv};

@@ -43,7 +43,7 @@ fn day(d: Day) {
     text(&line);
 }
 
-fn hex(n: u64) -> u8 {
+pub fn hex(n: u64) -> u8 {
     let d = n % 16;
     if d < 10 {
         (48 + d) as u8

@@ -11,7 +11,7 @@ use borrow.Author.Needs.{needs}
 use borrow.Author.Tests.{eq-eqb}
 use borrow.Fn.Kinds.{In, Out}
 use borrow.Fn.PlainCycle.{Measures, is, falls, and}
-use Rattle.objects.specs.Objects.{headerOf, object, objects, closed, plus, part, within, withinOne}
+use Rattle.objects.specs.Objects.{headerOf, object, objects, closed, plus, within, withinOne}
 use Rattle.objects.specs.declared.Head.the-variants.{Header}
 use Rattle.objects.specs.declared.One.the-variants.{Object}
 use Rattle.laws.proofs.Lists.{from}

@@ -1,5 +1,4 @@
 -- `order::choose` meets its contract. Assumes nothing.
-use borrow.Author.Needs.{needs}
 use Rattle.laws.proofs.Rungs.{rungs}
 use Rattle.order.proofs.choose.Statement.{statement}
 use Rattle.order.proofs.choose.Tie as tie

@@ -1,5 +1,4 @@
 -- `order::on` meets its contract. Assumes nothing.
-use borrow.Author.Needs.{needs}
 use Rattle.laws.proofs.Rungs.{rungs}
 use Rattle.order.proofs.on.Statement.{statement}
 use Rattle.order.proofs.on.Tie as tie

@@ -1,5 +1,4 @@
 -- `order::unblock` meets its contract. Assumes nothing.
-use borrow.Author.Needs.{needs}
 use Rattle.laws.proofs.Rungs.{rungs}
 use Rattle.order.proofs.unblock.Statement.{statement}
 use Rattle.order.proofs.unblock.Tie as tie

@@ -1,5 +1,4 @@
 -- `order::verify` meets its contract. Assumes nothing.
-use borrow.Author.Needs.{needs}
 use Rattle.laws.proofs.Rungs.{rungs}
 use Rattle.order.proofs.verify.Statement.{statement}
 use Rattle.order.proofs.verify.Tie as tie

@@ -4,7 +4,6 @@ use mathlib.Core.Path.{_≡_, refl, sym, _∙_}
 use native.Mathlib.Omega.{arith}
 use lib.ListN.{length, drop, drop-of-length-le}
 use denote.Ref.{now}
-use borrow.Author.Needs.{needs}
 use Rattle.values.specs.Bytes.{eqbs}
 use Rattle.values.proofs.Strings.{same-lengths, same-on, same-off}
 use Rattle.values.proofs.bytes.same.Statement.{statement}

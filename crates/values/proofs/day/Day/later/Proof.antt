@@ -1,5 +1,4 @@
 -- `values::day::Day::later` meets its contract. Assumes nothing.
-use borrow.Author.Needs.{needs}
 use Rattle.values.proofs.Contents.{contents}
 use Rattle.values.proofs.day.Day.later.Statement.{statement}
 use Rattle.values.proofs.day.Day.later.Tie as tie

@@ -1,5 +1,4 @@
 -- `values::rights::Rights::allows_can` meets its contract. Assumes nothing.
-use borrow.Author.Needs.{needs}
 use Rattle.values.proofs.Bits.{mask-test}
 use Rattle.values.proofs.rights.Rights.allows_can.Statement.{statement}
 use Rattle.values.proofs.rights.Rights.allows_can.Tie as tie

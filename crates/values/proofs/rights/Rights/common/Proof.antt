@@ -1,5 +1,4 @@
 -- `values::rights::Rights::common` meets its contract. Assumes nothing.
-use borrow.Author.Needs.{needs}
 use Rattle.values.proofs.Bits.{common-is}
 use Rattle.values.proofs.rights.Rights.common.Statement.{statement}
 use Rattle.values.proofs.rights.Rights.common.Tie as tie

@@ -1,5 +1,4 @@
 -- `values::rights::Rights::manages_pin` meets its contract. Assumes nothing.
-use borrow.Author.Needs.{needs}
 use Rattle.values.proofs.Bits.{mask-test}
 use Rattle.values.proofs.rights.Rights.manages_pin.Statement.{statement}
 use Rattle.values.proofs.rights.Rights.manages_pin.Tie as tie

@@ -1,5 +1,4 @@
 -- `values::rights::Rights::role` meets its contract. Assumes nothing.
-use borrow.Author.Needs.{needs}
 use Rattle.laws.proofs.Rungs.{rungs}
 use Rattle.values.specs.Rights.{roleOf}
 use Rattle.values.proofs.rights.Rights.role.Statement.{statement}

@@ -1,0 +1,59 @@
+-- The one claim: P1 to P12 hold of the definitions, each by computing it. Assumes nothing.
+use mathlib.Core.Path.{refl}
+use Rattle.objects.specs.Objects.{objectsIn, objects, objectsOf, foundIn, headerOf, tagOf, tag2, lenOf, len1, len2}
+use Rattle.objects.specs.Chain.{counted, taken}
+use Rattle.values.specs.Bytes.{copiedInto}
+use Rattle.values.specs.Names.{isName, nameOf, noName, nameFits, sameName}
+use Rattle.values.specs.Keys.{keyOf, noKey, keyFits, keyStands}
+use Rattle.values.specs.Days.{isDate, dayFits, isDay, before, later}
+use Rattle.values.specs.Rights.{rightsFit, roleOf, isRights, andOf, common, groupMask, readsGroup}
+use Rattle.values.specs.Points.{noPoint, pointFits, expired, withKey}
+use Rattle.values.specs.Words.{number}
+use Rattle.certificate.specs.Body.{isKey, isSignature, wholeOf, signedWhole, signedOf, versionThen, issuerThen, keyThen, ownThen, rightsThen, firstThen, lastThen, extThen}
+use Rattle.command.specs.Form.{formOf, afterHeader, bodyOf, extendedOf, shortOf, longOf, afterShort, afterLong}
+use Rattle.command.specs.Kind.{kindOf}
+use Rattle.command.specs.Shape.{shapeOf, headedOf}
+use Rattle.event.specs.Event.{wordOf}
+use Rattle.event.specs.Course.{settledBy, awaitsBy}
+use Rattle.event.specs.Settle.{endsBy, passesBy, judgedOf, awaitedOf, courseOf}
+use Rattle.fields.specs.Taking.{reading, lastly, fitted, lastOf, holds}
+use Rattle.fields.specs.Given.{only, verifying}
+use Rattle.fields.specs.Choice.{choiceOf, protocolThen, passwordThen, chosenBy}
+use Rattle.fields.specs.Choice as choice
+use Rattle.fields.specs.Held.{generalOf, heldIn}
+use Rattle.fields.specs.Names.{verified, verifyOf}
+use Rattle.fields.specs.Asked.{dataOf, asking, askedOf}
+use Rattle.reply.specs.Bytes.{lengthBytes, object}
+use Rattle.reply.specs.Reply as reply
+use Rattle.trust.specs.Trust.{anchorFits, onePoint, pointsFit, knows, found, linked}
+use Rattle.session.specs.Session.{noChain}
+use Rattle.session.specs.Moment.{momentOf}
+use Rattle.session.specs.Fits.{rootFits, dvFits, terminalFits, chainFits, groundFits, contextFits}
+use Rattle.session.specs.Authorization.{sharedBy, authorization}
+use Rattle.token.specs.State.{startOf}
+use Rattle.token.specs.Limits.{inLimits}
+use Rattle.token.specs.Commands.{choosePlan, runPlan, generalPlan, readPlan}
+use Rattle.token.specs.Certify.{repeats, late, underCourse, underPlan, verifyPlan}
+use Rattle.token.specs.Plan.{commandOf, timedOf, requestedOf, guarded, planOf}
+use Rattle.token.specs.After.{choiceTaken, runClosed, trialLost, linkTaken, dvTaken, terminalTaken, afterOf}
+use Rattle.token.specs.Step.{layoutOf, replyTo, stepOf}
+use Rattle.claims.specs.Values.{Values}
+
+pub values-met : Values
+unfolding objectsIn objects objectsOf foundIn headerOf tagOf tag2 lenOf len1 len2 counted taken copiedInto isName nameOf noName nameFits sameName keyOf noKey keyFits keyStands isDate dayFits isDay before later rightsFit roleOf isRights andOf common groupMask readsGroup noPoint pointFits expired withKey number isKey isSignature wholeOf signedWhole signedOf versionThen issuerThen keyThen ownThen rightsThen firstThen lastThen extThen formOf afterHeader bodyOf extendedOf shortOf longOf afterShort afterLong kindOf shapeOf headedOf wordOf settledBy awaitsBy endsBy passesBy judgedOf awaitedOf courseOf reading lastly fitted lastOf holds only verifying choiceOf protocolThen passwordThen choice.rightsThen chosenBy generalOf heldIn verified verifyOf dataOf asking askedOf lengthBytes object reply.dataOf reply.replyOf anchorFits onePoint pointsFit knows found linked noChain momentOf rootFits dvFits terminalFits chainFits groundFits contextFits sharedBy authorization startOf inLimits choosePlan runPlan generalPlan readPlan repeats late underCourse underPlan verifyPlan commandOf timedOf requestedOf guarded planOf choiceTaken runClosed trialLost linkTaken dvTaken terminalTaken afterOf layoutOf replyTo stepOf
+values-met =
+    record {
+      p1 = refl;
+      p2 = refl;
+      p3 = refl;
+      p4 = refl;
+      p5 = (refl, refl);
+      p6 = (refl, refl);
+      p7 = refl;
+      p8 = (refl, refl);
+      p9 = (refl, refl);
+      p9-link = (refl, refl);
+      p10 = (refl, refl);
+      p11 = (refl, refl);
+      p12 = (refl, refl);
+    }

@@ -1,0 +1,1 @@
+// Document 01 values to meet: the list and its one claim. There is no code here.

@@ -1,0 +1,111 @@
+// A token to talk to, and runs of its passwords that are not written.
+use super::talk::passed;
+use super::talk::quietly;
+use event::course::Job;
+use event::course::Note;
+use event::run::Step;
+use token::state::Token;
+use values::day::Day;
+use values::name::Name;
+use values::point::Point;
+use values::rights::Rights;
+
+// The CAN, the PIN and the PUK chosen, and the PIN naming 0000000310.
+pub const CAN: [u8; 20] =
+    *b"\x00\x22\xc1\xa4\x0f\x80\x0a\x04\x00\x7f\x00\x07\x02\x02\x04\x02\x02\x83\x01\x02";
+
+pub const PIN: [u8; 20] =
+    *b"\x00\x22\xc1\xa4\x0f\x80\x0a\x04\x00\x7f\x00\x07\x02\x02\x04\x02\x02\x83\x01\x03";
+
+pub const PUK: [u8; 20] =
+    *b"\x00\x22\xc1\xa4\x0f\x80\x0a\x04\x00\x7f\x00\x07\x02\x02\x04\x02\x02\x83\x01\x04";
+
+pub const PIN_FOR: [u8; 41] =
+    *b"\x00\x22\xc1\xa4\x24\x80\x0a\x04\x00\x7f\x00\x07\x02\x02\x04\x02\x02\x83\x01\x03\x7f\x4c\x12\x06\x09\x04\x00\x7f\x00\x07\x03\x01\x02\x02\x53\x05\x00\x00\x00\x03\x10";
+
+// Step four of any run, and the token that answers it.
+pub const FOUR: [u8; 18] =
+    *b"\x00\x86\x00\x00\x0c\x7c\x0a\x85\x08\x01\x02\x03\x04\x05\x06\x07\x08\x00";
+
+pub const TOKEN: [u8; 8] = *b"\x11\x22\x33\x44\x55\x66\x77\x88";
+
+// UTCVCAAT00001 selected.
+pub const SELECT: [u8; 20] =
+    *b"\x00\x22\x81\xb6\x0f\x83\x0d\x55\x54\x43\x56\x43\x41\x41\x54\x30\x30\x30\x30\x31";
+
+// Group 1 read.
+pub const READ: [u8; 5] = *b"\x00\xb0\x81\x00\x00";
+
+// UTDVDOM00001 under UTCVCAAT00001, with its signature.
+pub const VERIFY_DV: [u8; 231] =
+    *b"\x00\x2a\x00\xbe\xe2\x7f\x4e\x81\x9b\x5f\x29\x01\x00\x42\x0d\x55\x54\x43\x56\x43\x41\x41\x54\x30\x30\x30\x30\x31\x7f\x49\x4f\x06\x0a\x04\x00\x7f\x00\x07\x02\x02\x02\x02\x03\x86\x41\x04\x4b\x85\x4b\x1d\xfa\x51\xc4\x55\x8e\x12\x37\x23\xf9\x34\x1a\x2c\xd6\x31\xcc\xed\x69\xc4\x44\x45\x4c\xaf\x77\x72\xf3\xe2\x68\x15\x6a\x5c\x27\x15\xe1\xd1\x24\xff\xda\xb5\x6b\x9a\x76\x80\x2c\xe2\xf3\x31\x92\x67\xd0\xd6\x5c\xfc\xb6\x78\x7b\x42\xbd\x16\x21\x70\x5f\x20\x0c\x55\x54\x44\x56\x44\x4f\x4d\x30\x30\x30\x30\x31\x7f\x4c\x12\x06\x09\x04\x00\x7f\x00\x07\x03\x01\x02\x02\x53\x05\x80\x0f\xff\x01\x30\x5f\x25\x06\x02\x06\x00\x02\x00\x01\x5f\x24\x06\x02\x06\x00\x05\x00\x01\x5f\x37\x40\x2e\xdf\x03\xa1\xbd\xf4\x1c\x42\x80\x85\x17\x11\xe6\xa5\xa4\xb0\x13\x09\x49\xf7\x2b\xcb\xf7\x65\xc5\x16\x63\xc0\xc1\xd0\x9a\x00\x3f\x64\x64\x4b\x7d\x0e\x9a\x04\x3b\x46\x7e\x86\x67\x4b\xe5\x8d\x07\xf7\x76\x76\xf5\x60\xd0\xc4\xe1\x91\xd6\x0e\x9b\xee\x9d\xff";
+
+// UTCVCAAT00001 and UTCVCAAT00002.
+pub fn previous() -> Point {
+    let name = Name::of(b"UTCVCAAT00001");
+    Point {
+        name: name,
+        rights: Rights(0xFF_FFFF_FFFF),
+        first: Day(20260101),
+        last: Day(20281231),
+        key: 1,
+    }
+}
+
+pub fn newest() -> Point {
+    let name = Name::of(b"UTCVCAAT00002");
+    Point {
+        name: name,
+        rights: Rights(0xC0_1FFF_FF37),
+        first: Day(20270101),
+        last: Day(20291231),
+        key: 2,
+    }
+}
+
+// A token with both, on this day.
+pub fn token(today: Day) -> Token {
+    let a = newest();
+    let b = previous();
+    let p = Token::with_two(a, b, today);
+    let t = p.token;
+    t
+}
+
+// A password chosen, and its first three steps passed.
+pub fn at_four(t: Token, choose: &[u8], note: Note) -> Token {
+    let chosen = quietly(t, choose, note, passed(Job::Nothing), b"");
+    let one = quietly(
+        chosen,
+        b"\x10\x86\x00\x00\x02\x7c\x00\x00",
+        note,
+        passed(Job::Step(Step::Nonce)),
+        b"\x01",
+    );
+    let two = quietly(
+        one,
+        b"\x10\x86\x00\x00\x05\x7c\x03\x81\x01\x02\x00",
+        note,
+        passed(Job::Step(Step::Map)),
+        b"\x02",
+    );
+    quietly(
+        two,
+        b"\x10\x86\x00\x00\x05\x7c\x03\x83\x01\x03\x00",
+        note,
+        passed(Job::Step(Step::Agree)),
+        b"\x03",
+    )
+}
+
+// A password chosen with no session open, and all its steps passed.
+pub fn opened(t: Token, choose: &[u8]) -> Token {
+    let four = at_four(t, choose, Note::Plain);
+    quietly(
+        four,
+        &FOUR,
+        Note::Plain,
+        passed(Job::Step(Step::Confirm)),
+        &TOKEN,
+    )
+}
