@@ -32,11 +32,12 @@ use Rattle.session.specs.Fits.{rootFits, dvFits, terminalFits, chainFits, groun
 use Rattle.session.specs.Authorization.{sharedBy, authorization}
 use Rattle.token.specs.State.{startOf}
 use Rattle.token.specs.Limits.{inLimits}
-use Rattle.token.specs.Commands.{choosePlan, runPlan, generalPlan, readPlan}
-use Rattle.token.specs.Certify.{repeats, late, underCourse, underPlan, verifyPlan}
+use Rattle.checks.specs.Commands.{choosePlan, runPlan, generalPlan, readPlan}
+use Rattle.checks.specs.Certify.{repeats, late, underCourse, underPlan, verifyPlan}
 use Rattle.token.specs.Plan.{commandOf, timedOf, requestedOf, guarded, planOf}
 use Rattle.token.specs.After.{choiceTaken, runClosed, trialLost, linkTaken, dvTaken, terminalTaken, afterOf}
-use Rattle.token.specs.Step.{layoutOf, replyTo, stepOf}
+use Rattle.answer.specs.Answer.{layoutOf, replyTo}
+use Rattle.token.specs.Step.{stepOf}
 use Rattle.claims.specs.Values.{Values}
 
 pub values-met : Values

@@ -64,10 +64,10 @@ use Rattle.session.specs.Moment.{rank, unproven, momentOf}
 use Rattle.session.specs.Authorization.{authorization}
 use Rattle.session.specs.Fits.{contextFits}
 use Rattle.token.specs.declared.state.Token.{Token}
-use Rattle.token.specs.State.{tries, uses}
+use Rattle.token.specs.State.{tries, uses, contextOf, chainOf}
 use Rattle.token.specs.Limits.{selectable, inLimits}
-use Rattle.token.specs.Commands.{contextOf, managesPin, isFor, choosePlan, runPlan, chipPlan, generalPlan, announcePlan, readPlan, changePlan, unblockPlan, activePlan}
-use Rattle.token.specs.Certify.{chainOf, selectBy, selectPlan, repeats, late, underCourse, underPlan, verifyPlan}
+use Rattle.checks.specs.Commands.{managesPin, isFor, choosePlan, runPlan, chipPlan, generalPlan, announcePlan, readPlan, changePlan, unblockPlan, activePlan}
+use Rattle.checks.specs.Certify.{selectBy, selectPlan, repeats, late, underCourse, underPlan, verifyPlan}
 use Rattle.token.specs.Plan.{commandOf, timedOf, requestedOf, guarded, planOf}
 use Rattle.token.specs.Step.{happenedOf}
 
@@ -211,35 +211,35 @@ module _ (t : Token) (a : Asked) where
   unblock-ways false true u false x y = y
   unblock-ways false false u f x y = is-refused
 
-  run-chip : (c : Choice) (s : Step) → Plan·Fits t a (runPlan t c s Chip)
+  run-chip : (c : Choice) (s : Step) → Plan·Fits t a (runPlan (t .pin) c s Chip)
   unfolding runPlan
   run-chip c s = refuses Data
 
-  active-fits : (e : Event) → On e → Plan·Fits t a (activePlan t e)
+  active-fits : (e : Event) → On e → Plan·Fits t a (activePlan (contextOf t) e)
   unfolding activePlan
-  active-fits e f = once _ (of-both On (managesPin t) f is-refused)
+  active-fits e f = once _ (of-both On (managesPin (contextOf t)) f is-refused)
 
   module _ {m : Kind} {ch : Bool} where
-    choose-fits : (c : Choice) → a .request ≡ Asks m ch (Choose c) → Plan·Fits t a (choosePlan t c)
+    choose-fits : (c : Choice) → a .request ≡ Asks m ch (Choose c) → Plan·Fits t a (choosePlan (t .pin) (t .active) (t .puk) (contextOf t .opened) c)
     unfolding choosePlan
     choose-fits c q =
         once _
         (choose-ways (isPin (passwordOf c) && eqb (t .pin) 0) (isPin (passwordOf c) && not (t .active)) (isPin (passwordOf c) && eqb (t .pin) 1 && not (openedByCan (contextOf t .opened)))
         (isPuk (passwordOf c) && eqb (t .puk) 0) c (t .pin) (λ e. is-chosen q e))
 
-    run-fits : (x : Step) (c : Choice) (s : Step) → a .request ≡ Asks m ch (General (StepData x)) → contextOf t .stage ≡ Run c s → Plan·Fits t a (runPlan t c s (StepData x))
+    run-fits : (x : Step) (c : Choice) (s : Step) → a .request ≡ Asks m ch (General (StepData x)) → contextOf t .stage ≡ Run c s → Plan·Fits t a (runPlan (t .pin) c s (StepData x))
     unfolding runPlan
     run-fits x c s q r =
         rung (Plan·Fits t a) (not (isFor (StepData x) s)) (λ e. refuses Data)
         (λ e. waits (StepJob s) (passedEvent c s) (otherEvent c s (t .pin)) (λ n. rung On (isLast s) (λ l. is-opened q r l) (λ l. is-stepped q r l))
         (of-both On (isLast s) (of-both On (isPin (passwordOf c)) (is-fell q r) (is-closed q r)) (is-closed q r)))
 
-    chip-fits : (x : Content) → a .request ≡ Asks m ch (General x) → contextOf t .stage ≡ ChipKeyChosen → Plan·Fits t a (chipPlan t x)
+    chip-fits : (x : Content) → a .request ≡ Asks m ch (General x) → contextOf t .stage ≡ ChipKeyChosen → Plan·Fits t a (chipPlan (contextOf t .key) x)
     unfolding chipPlan
     chip-fits (StepData s) q r = refuses Data
     chip-fits Chip q r = in-time (λ n. is-authenticated q r) (is-chip-lost q r)
 
-    general-fits : (x : Content) (s : Stage) → a .request ≡ Asks m ch (General x) → contextOf t .stage ≡ s → Plan·Fits t a (generalPlan t s x)
+    general-fits : (x : Content) (s : Stage) → a .request ≡ Asks m ch (General x) → contextOf t .stage ≡ s → Plan·Fits t a (generalPlan (contextOf t) (t .pin) s x)
     unfolding generalPlan
     general-fits (StepData x) (Run c s) q r = run-fits x c s q r
     general-fits Chip (Run c s) q r = run-chip c s
@@ -250,11 +250,11 @@ module _ (t : Token) (a : Asked) where
     general-fits x Proven q r = refuses Moment
     general-fits x Authenticated q r = refuses Moment
 
-    select-fits : (n : Name) → a .request ≡ Asks m ch Select → Plan·Fits t a (selectPlan t n)
+    select-fits : (n : Name) → a .request ≡ Asks m ch Select → Plan·Fits t a (selectPlan (t .points) (chainOf t) n)
     unfolding selectPlan
     select-fits n q = go (found (t .points) n) refl
       where
-        go : (x : Anchor) → found (t .points) n ≡ x → Plan·Fits t a (selectBy t n x)
+        go : (x : Anchor) → found (t .points) n ≡ x → Plan·Fits t a (selectBy (chainOf t) n x)
         go (Is i) e = once _ (is-selected q (found-selects n i e))
         go Unknown e =
             rung (Plan·Fits t a) (hasDv (chainOf t) && sameName n (chainOf t .dv .name)) (λ f. once _ (is-selected q (to-dv (and-l (hasDv (chainOf t)) (sameName n (chainOf t .dv .name)) f)))) (λ f. refuses NotFound)
@@ -262,7 +262,7 @@ module _ (t : Token) (a : Asked) where
     -- under each issuer, each role
     module _ (q : a .request ≡ Asks m ch Verify) (c : certifying t ≡ true) where
       taken-fits : (i : Issuer) (o : Role) → roleOf (a .point .rights) ≡ o → selectable (Chose i) (t .points .two) (hasDv (chainOf t)) ≡ true → not (issues i o) ≡ false
-          → repeats t (a .point .name) o ≡ false → not (sameName (a .name) (holderOf (t .points) i (chainOf t .dv) .name)) ≡ false
+          → repeats (t .points) (chainOf t .dv) (a .point .name) o ≡ false → not (sameName (a .name) (holderOf (t .points) i (chainOf t .dv) .name)) ≡ false
           → (n : ℕ) → Fits t a (takenEvent o (holderOf (t .points) i (chainOf t .dv) .rights)) (withKey (a .point) n) noKey
       unfolding repeats
       taken-fits Newest Cvca r s e f g n = is-linked n q c r (or-l (knows (t .points) (a .point .name)) _ f)
@@ -278,35 +278,35 @@ module _ (t : Token) (a : Asked) where
       taken-fits Dv OtherDv r s e f g n = true-false e
       taken-fits Dv Terminal r s e f g n = is-completed n q c r s (not-false _ g)
 
-      under-fits : (i : Issuer) → selectable (Chose i) (t .points .two) (hasDv (chainOf t)) ≡ true → Plan·Fits t a (underPlan t i (a .name) (a .point))
+      under-fits : (i : Issuer) → selectable (Chose i) (t .points .two) (hasDv (chainOf t)) ≡ true → Plan·Fits t a (underPlan (t .points) (chainOf t .dv) (t .today) i (a .name) (a .point))
       unfolding underPlan underCourse
       under-fits i s =
           let o : Role = roleOf (a .point .rights) in
           let h : Point = holderOf (t .points) i (chainOf t .dv) in
-          verify-ways (not (issues i o)) (repeats t (a .point .name) o) (not (sameName (a .name) (h .name))) (late t (a .point) h o) (takenEvent o (h .rights)) (taken-fits i o refl s)
+          verify-ways (not (issues i o)) (repeats (t .points) (chainOf t .dv) (a .point .name) o) (not (sameName (a .name) (h .name))) (late (t .today) (a .point) h o) (takenEvent o (h .rights)) (taken-fits i o refl s)
           (not-passed q verifying)
 
-      verify-fits : (s : Selected) → selectable s (t .points .two) (hasDv (chainOf t)) ≡ true → Plan·Fits t a (verifyPlan t s (a .name) (a .point))
+      verify-fits : (s : Selected) → selectable s (t .points .two) (hasDv (chainOf t)) ≡ true → Plan·Fits t a (verifyPlan (t .points) (chainOf t .dv) (t .today) s (a .name) (a .point))
       unfolding verifyPlan
       verify-fits NoIssuer e = refuses Moment
       verify-fits (Chose i) e = under-fits i e
 
-    announce-fits : a .request ≡ Asks m ch Announce → hasTerminal (chainOf t) && unproven (contextOf t .stage) ≡ true → Plan·Fits t a (announcePlan t (a .name) (a .key))
+    announce-fits : a .request ≡ Asks m ch Announce → hasTerminal (chainOf t) && unproven (contextOf t .stage) ≡ true → Plan·Fits t a (announcePlan (chainOf t .terminal .name) (a .name) (a .key))
     unfolding announcePlan
-    announce-fits q e = of-both (Plan·Fits t a) (sameName (a .name) (contextOf t .chain .terminal .name)) (at-once (is-announced q e)) (refuses NotFound)
+    announce-fits q e = of-both (Plan·Fits t a) (sameName (a .name) (chainOf t .terminal .name)) (at-once (is-announced q e)) (refuses NotFound)
 
-    read-fits : (n : ℕ) → a .request ≡ Asks m ch (Read n) → Plan·Fits t a (readPlan t n)
+    read-fits : (n : ℕ) → a .request ≡ Asks m ch (Read n) → Plan·Fits t a (readPlan (contextOf t) n)
     unfolding readPlan
     read-fits n q = once _ (of-both On (readsGroup (authorization (contextOf t)) n) (is-read q) is-refused)
 
-    change-fits : a .request ≡ Asks m ch ChangePin → Plan·Fits t a (changePlan t)
+    change-fits : a .request ≡ Asks m ch ChangePin → Plan·Fits t a (changePlan (contextOf t) (t .active))
     unfolding changePlan
     change-fits q =
-        of-both (Plan·Fits t a) ((openedByPin (contextOf t .opened) && t .active) || managesPin t) (waits PinChange PinChanged NotPassed (λ n. is-changed q) (not-passed q changing)) (refuses Lacking)
+        of-both (Plan·Fits t a) ((openedByPin (contextOf t .opened) && t .active) || managesPin (contextOf t)) (waits PinChange PinChanged NotPassed (λ n. is-changed q) (not-passed q changing)) (refuses Lacking)
 
-    unblock-fits : a .request ≡ Asks m ch Unblock → Plan·Fits t a (unblockPlan t)
+    unblock-fits : a .request ≡ Asks m ch Unblock → Plan·Fits t a (unblockPlan (contextOf t) (eqb (t .puk) 0) (eqb (t .pin) tries))
     unfolding unblockPlan
-    unblock-fits q = once _ (unblock-ways (openedByPuk (contextOf t .opened)) (managesPin t) (eqb (t .puk) 0) (eqb (t .pin) tries) (is-unblocked-puk q) (is-unblocked q))
+    unblock-fits q = once _ (unblock-ways (openedByPuk (contextOf t .opened)) (managesPin (contextOf t)) (eqb (t .puk) 0) (eqb (t .pin) tries) (is-unblocked-puk q) (is-unblocked q))
 
   -- every ask, at its moment
   command-fits : {m : Kind} {ch : Bool} {x : Ask} → inLimits t ≡ true → Of m x → a .request ≡ Asks m ch x → momentOf (t .session) m ch ≡ true → Plan·Fits t a (commandOf t a x)

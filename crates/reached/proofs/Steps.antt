@@ -54,13 +54,14 @@ use Rattle.session.specs.Moment.{momentOf}
 use Rattle.session.specs.Authorization.{authorization}
 use Rattle.reply.specs.Reply.{room}
 use Rattle.token.specs.declared.state.Token.{Token}
-use Rattle.token.specs.State.{tries}
+use Rattle.token.specs.State.{tries, contextOf, chainOf}
 use Rattle.token.specs.Limits.{inLimits}
-use Rattle.token.specs.Commands.{contextOf, managesPin, isFor, choosePlan, runPlan, chipPlan, generalPlan, announcePlan, readPlan, changePlan, unblockPlan, activePlan}
-use Rattle.token.specs.Certify.{chainOf, selectBy, selectPlan, repeats, late, underCourse, underPlan, verifyPlan}
+use Rattle.checks.specs.Commands.{managesPin, isFor, choosePlan, runPlan, chipPlan, generalPlan, announcePlan, readPlan, changePlan, unblockPlan, activePlan}
+use Rattle.checks.specs.Certify.{selectBy, selectPlan, repeats, late, underCourse, underPlan, verifyPlan}
 use Rattle.token.specs.Plan.{commandOf, timedOf, requestedOf, guarded, planOf}
 use Rattle.token.specs.After.{afterOf}
-use Rattle.token.specs.Step.{Stepped, replyTo, happenedOf, nextOf, endedBy, stepOf}
+use Rattle.answer.specs.Answer.{replyTo}
+use Rattle.token.specs.Step.{Stepped, happenedOf, nextOf, endedBy, stepOf}
 
 -- ---- a refusal leaves the token as it was
 
@@ -99,8 +100,8 @@ no-job-no-influence t s note r q first second f g size e =
     none x a b =
         let z = unasked (planOf t s note) x (length a) b e in
         let h : Happened = happenedOf t s note x a b in
-        ap (λ (n : ℕ). record { token = nextOf t h; bytes = replyTo (nextOf t h) (h .event) (take n a) size }) z
-        ∙ sym (ap (λ (n : ℕ). record { token = nextOf t h; bytes = replyTo (nextOf t h) (h .event) (take n []) size }) z)
+        ap (λ (n : ℕ). record { token = nextOf t h; bytes = replyTo (nextOf t h .points) (h .event) (take n a) size }) z
+        ∙ sym (ap (λ (n : ℕ). record { token = nextOf t h; bytes = replyTo (nextOf t h .points) (h .event) (take n []) size }) z)
 
     same : endedBy t (happenedOf t s note r first second) [] size ≡ endedBy t (happenedOf t s note q f g) [] size
     same = ap (λ (h : Happened). endedBy t h [] size) (no-influence (planOf t s note) r q (length first) (length f) second g e)
@@ -187,7 +188,7 @@ module _ (t : Token) where
   choose-quiet false false false true c n = refl
   choose-quiet false false false false c n = refl
 
-  choose-modest : (c : Choice) → Modest (choosePlan t c)
+  choose-modest : (c : Choice) → Modest (choosePlan (t .pin) (t .active) (t .puk) (contextOf t .opened) c)
   unfolding choosePlan
   choose-modest c =
       once _
@@ -197,16 +198,16 @@ module _ (t : Token) where
   other-quiet : (c : Choice) (p : Step) (n : ℕ) → Quiet (otherEvent c p n)
   other-quiet c p n = of-both Quiet (isLast p) (of-both Quiet (isPin (passwordOf c)) refl refl) refl
 
-  chip-modest : (x : Content) → Modest (chipPlan t x)
+  chip-modest : (x : Content) → Modest (chipPlan (contextOf t .key) x)
   unfolding chipPlan
   chip-modest (StepData p) = once _ refl
   chip-modest Chip = refl
 
-  run-modest : (c : Choice) (p : Step) (x : Content) → Modest (runPlan t c p x)
+  run-modest : (c : Choice) (p : Step) (x : Content) → Modest (runPlan (t .pin) c p x)
   unfolding runPlan
   run-modest c p x = of-both Modest (not (isFor x p)) (once _ refl) (later _ _ _ (other-quiet c p (t .pin)))
 
-  general-modest : (s : Stage) (x : Content) → Modest (generalPlan t s x)
+  general-modest : (s : Stage) (x : Content) → Modest (generalPlan (contextOf t) (t .pin) s x)
   unfolding generalPlan
   general-modest (Run c p) x = run-modest c p x
   general-modest AtChosen x = chip-modest x
@@ -216,11 +217,11 @@ module _ (t : Token) where
   general-modest AtProven x = once _ refl
   general-modest AtAuthenticated x = once _ refl
 
-  select-modest : (n : Name) → Modest (selectPlan t n)
+  select-modest : (n : Name) → Modest (selectPlan (t .points) (chainOf t) n)
   unfolding selectPlan
   select-modest n = go (found (t .points) n)
     where
-      go : (x : Anchor) → Modest (selectBy t n x)
+      go : (x : Anchor) → Modest (selectBy (chainOf t) n x)
       go (Is i) = once _ refl
       go Unknown = of-both Modest (hasDv (chainOf t) && sameName n (chainOf t .dv .name)) (once _ refl) (once _ refl)
 
@@ -231,27 +232,27 @@ module _ (t : Token) where
   verify-quiet false false false true x = refl
   verify-quiet false false false false x = refl
 
-  verify-modest : (s : Selection) (n : Name) (p : Point) → Modest (verifyPlan t s n p)
+  verify-modest : (s : Selection) (n : Name) (p : Point) → Modest (verifyPlan (t .points) (chainOf t .dv) (t .today) s n p)
   unfolding verifyPlan underPlan underCourse
   verify-modest NoIssuer n p = once _ refl
   verify-modest (Of i) n p =
       let h : Point = holderOf (t .points) i (chainOf t .dv) in
-      verify-quiet (not (issues i (roleOf (p .rights)))) (repeats t (p .name) (roleOf (p .rights))) (not (sameName n (h .name))) (late t p h (roleOf (p .rights))) (takenEvent (roleOf (p .rights)) (h .rights))
+      verify-quiet (not (issues i (roleOf (p .rights)))) (repeats (t .points) (chainOf t .dv) (p .name) (roleOf (p .rights))) (not (sameName n (h .name))) (late (t .today) p h (roleOf (p .rights))) (takenEvent (roleOf (p .rights)) (h .rights))
 
-  announce-modest : (n : Name) (k : Key) → Modest (announcePlan t n k)
+  announce-modest : (n : Name) (k : Key) → Modest (announcePlan (chainOf t .terminal .name) n k)
   unfolding announcePlan
-  announce-modest n k = of-both Modest (sameName n (contextOf t .chain .terminal .name)) refl (once _ refl)
+  announce-modest n k = of-both Modest (sameName n (chainOf t .terminal .name)) refl (once _ refl)
 
   on-quiet : (b : Bool) (e : Event) → Quiet e → Quiet (grounded b e)
   on-quiet b e q = of-both Quiet b q refl
 
-  read-modest : (n : ℕ) → Modest (readPlan t n)
+  read-modest : (n : ℕ) → Modest (readPlan (contextOf t) n)
   unfolding readPlan
   read-modest n = once _ (on-quiet (readsGroup (authorization (contextOf t)) n) ReadAllowed refl)
 
-  change-modest : Modest (changePlan t)
+  change-modest : Modest (changePlan (contextOf t) (t .active))
   unfolding changePlan
-  change-modest = of-both Modest ((openedByPin (contextOf t .opened) && t .active) || managesPin t) (later _ _ _ refl) (once _ refl)
+  change-modest = of-both Modest ((openedByPin (contextOf t .opened) && t .active) || managesPin (contextOf t)) (later _ _ _ refl) (once _ refl)
 
   unblock-quiet : (p r u f : Bool) → Quiet (unblockLadder p r u f)
   unblock-quiet true r true f = refl
@@ -261,13 +262,13 @@ module _ (t : Token) where
   unblock-quiet false true u false = refl
   unblock-quiet false false u f = refl
 
-  unblock-modest : Modest (unblockPlan t)
+  unblock-modest : Modest (unblockPlan (contextOf t) (eqb (t .puk) 0) (eqb (t .pin) tries))
   unfolding unblockPlan
-  unblock-modest = once _ (unblock-quiet (openedByPuk (contextOf t .opened)) (managesPin t) (eqb (t .puk) 0) (eqb (t .pin) tries))
+  unblock-modest = once _ (unblock-quiet (openedByPuk (contextOf t .opened)) (managesPin (contextOf t)) (eqb (t .puk) 0) (eqb (t .pin) tries))
 
-  active-modest : (e : Event) → Quiet e → Modest (activePlan t e)
+  active-modest : (e : Event) → Quiet e → Modest (activePlan (contextOf t) e)
   unfolding activePlan
-  active-modest e q = once _ (on-quiet (managesPin t) e q)
+  active-modest e q = once _ (on-quiet (managesPin (contextOf t)) e q)
 
   command-modest : (a : Asked) (x : Ask) → Modest (commandOf t a x)
   unfolding commandOf

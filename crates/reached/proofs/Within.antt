@@ -53,10 +53,8 @@ use Rattle.session.specs.Fits.{grantedFits, rootFits, dvFits, terminalFits, rea
 use Rattle.token.specs.declared.state.Token.{Token}
 use Rattle.token.specs.declared.state.Made.the-variants.{Accepted, Unfit}
 use Rattle.token.specs.declared.state.Personalised.{Personalised}
-use Rattle.token.specs.State.{tries, uses, withSession, withPin, resetOf, startOf, noToken, madeOf}
+use Rattle.token.specs.State.{tries, uses, withSession, withPin, resetOf, startOf, noToken, madeOf, contextOf, chainOf}
 use Rattle.token.specs.Limits.{selectable}
-use Rattle.token.specs.Commands.{contextOf}
-use Rattle.token.specs.Certify.{chainOf}
 use Rattle.token.specs.After.{choiceTaken, staged, stepPassed, triesAfter, opened, runClosed, trialLost, issuerSelected, linkTaken, dvTaken, extended, terminalTaken, announced, unblocked, unblockedByPuk, activated, afterOf}
 use Rattle.token.specs.Step.{Stepped, happenedOf, nextOf, stepOf}
 use Rattle.reply.specs.Reply.{room}

@@ -42,9 +42,7 @@ use Rattle.session.specs.declared.Context.{Context}
 use Rattle.session.specs.Session.{reachesDv, hasRights, hasDv, hasTerminal, noChain, bareSession}
 use Rattle.session.specs.Moment.{rank, told, unproven, isAuthenticated}
 use Rattle.token.specs.declared.state.Token.{Token}
-use Rattle.token.specs.State.{resetOf, startOf}
-use Rattle.token.specs.Commands.{contextOf}
-use Rattle.token.specs.Certify.{chainOf}
+use Rattle.token.specs.State.{resetOf, startOf, contextOf, chainOf}
 use Rattle.token.specs.After.{choiceTaken, staged, stepPassed, opened, runClosed, trialLost, issuerSelected, linkTaken, dvTaken, extended, terminalTaken, announced, unblocked, unblockedByPuk, activated, afterOf}
 use Rattle.reached.proofs.Fits.{Lim, Holds, as-newest, as-previous, Fits, is-refused, is-lost, is-chosen, is-stepped, is-opened, is-closed, is-fell, is-selected, is-linked, is-deputed, is-completed, is-announced, is-challenged, is-proven, is-disproved, is-chip, is-authenticated, is-chip-lost, not-passed, is-read, is-changed, is-unblocked-puk, is-unblocked, is-activated, is-deactivated}
 use Rattle.record.specs.Rule.{Fact, Taken, StepPassed, ChipPassed, Accepted, Announced, Challenged, Proved, Disproved, Lost, Nothing, Held, linkedBy, held, rightsIn, lastChoice, steps, naming, named, ruleA, Dv, Trio, under, lastDv, ruleB, orElse, dvBy, announcement, challenge, ruleC, ruleD}

@@ -53,9 +53,10 @@ use Rattle.session.specs.Session.{isOpen, openedByPin, openedByCan, hasRights, 
 use Rattle.session.specs.Moment.{noRun, told, isAuthenticated, momentOf}
 use Rattle.session.specs.Authorization.{rootOf, confirmedOf, authorization}
 use Rattle.session.proofs.Authorizes.{shared-right, effective-right}
+use Rattle.token.specs.State.{contextOf}
 use Rattle.token.specs.declared.state.Token.{Token}
 use Rattle.token.specs.Limits.{inLimits}
-use Rattle.token.specs.Commands.{contextOf, readPlan}
+use Rattle.checks.specs.Commands.{readPlan}
 use Rattle.token.specs.Plan.{commandOf, timedOf, requestedOf, guarded, planOf}
 use Rattle.token.specs.Step.{Stepped, happenedOf, nextOf, endedBy, stepOf}
 use Rattle.reached.proofs.Fits.{Lim, in-limits, fits}

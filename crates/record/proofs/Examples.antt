@@ -27,12 +27,13 @@ use Rattle.session.specs.Fits.{rootFits, dvFits, terminalFits, chainFits, groun
 use Rattle.session.specs.Moment.{momentOf}
 use Rattle.session.specs.Session.{noChain}
 use Rattle.token.specs.After.{choiceTaken, staged, stepPassed, opened, runClosed, trialLost, issuerSelected, linkTaken, dvTaken, terminalTaken, announced, unblocked, unblockedByPuk, activated, afterOf}
-use Rattle.token.specs.Certify.{selectPlan, repeats, late, underCourse, underPlan, verifyPlan}
-use Rattle.token.specs.Commands.{choosePlan, runPlan, chipPlan, generalPlan, announcePlan, readPlan, changePlan, unblockPlan, activePlan}
+use Rattle.checks.specs.Certify.{selectPlan, repeats, late, underCourse, underPlan, verifyPlan}
+use Rattle.checks.specs.Commands.{choosePlan, runPlan, chipPlan, generalPlan, announcePlan, readPlan, changePlan, unblockPlan, activePlan}
 use Rattle.token.specs.Limits.{inLimits}
 use Rattle.token.specs.Plan.{commandOf, timedOf, requestedOf, guarded, planOf}
 use Rattle.token.specs.State.{resetOf, startOf, noToken, madeOf}
-use Rattle.token.specs.Step.{layoutOf, replyTo, stepOf}
+use Rattle.answer.specs.Answer.{layoutOf, replyTo}
+use Rattle.token.specs.Step.{stepOf}
 use Rattle.trust.specs.Trust.{anchorFits, onePoint, twoPoints, pointsFit, knows, found, linked}
 use Rattle.values.specs.Bytes.{copiedInto}
 use Rattle.values.specs.Days.{isDate, dayFits, isDay, dated, before, later}

@@ -1,37 +1,23 @@
--- The reply and the whole step, over plain values. Assumes nothing.
+-- The whole step, over plain values. Assumes nothing.
 use Prim.Native.Nat.{ℕ, _≤_, _<_}
-use mathlib.Core.Path.{_≡_, refl, sym, ap, subst⁻¹, _∙_}
+use mathlib.Core.Path.{_≡_, refl, sym, subst⁻¹}
 use mathlib.Core.List.{List}
 use borrow.Author.Tests.{lt-ltb, le-ltb}
 use lib.ListN.{length, take}
 use lib.Seq.{length-take-le}
-use Rattle.values.specs.Words.{number}
-use Rattle.values.specs.declared.word.Word.{Word}
-use Rattle.event.specs.declared.happening.Event.{Event}
-use Rattle.event.specs.Event.{wordOf}
 use Rattle.event.specs.declared.course.Note.{Note}
 use Rattle.event.specs.declared.course.Plan.{Plan}
 use Rattle.event.specs.declared.settle.Answered.{Answered}
 use Rattle.event.specs.declared.settle.Happened.{Happened}
 use Rattle.event.specs.Settle.{settleOf}
 use Rattle.event.proofs.Settles.{answer-in}
-use Rattle.reply.specs.declared.Layout.{Layout}
 use Rattle.reply.specs.Lay.{Written}
-use Rattle.reply.specs.Reply.{room, replyOf}
+use Rattle.reply.specs.Reply.{room}
+use Rattle.answer.specs.Answer.{replyTo}
 use Rattle.token.specs.declared.state.Token.{Token}
 use Rattle.token.specs.Plan.{planOf}
 use Rattle.token.specs.After.{afterOf}
-use Rattle.token.specs.Step.{layoutOf, replyTo, stepOf}
-
-pub layout-arm : (x d : Event) (r : Layout) → x ≡ d → r ≡ layoutOf d → r ≡ layoutOf x
-layout-arm x d r e z = z ∙ ap layoutOf (sym e)
-
--- what was written is the reply to the event
-pub answers-is : (t : Token) (e : Event) (first o₀ o₁ : List ℕ) (l : Layout) (w : Word) (k n : ℕ) → l ≡ layoutOf e → w ≡ wordOf e → k ≡ number w
-    → Written (replyOf (length o₀) l k first (t .points .newest .name) (t .points .previous .name) (t .points .two)) o₀ o₁ n
-    → Written (replyTo t e first (length o₀)) o₀ o₁ n
-unfolding replyTo
-answers-is t e first o₀ o₁ l w k n f g h z = rw (← f, ← g, ← h) z
+use Rattle.token.specs.Step.{stepOf}
 
 module _ (t : Token) (s : List ℕ) (note : Note) (r : Answered) (first second : List ℕ) (size : ℕ) where
   module _ (q : size < room) where
@@ -55,6 +41,6 @@ module _ (t : Token) (s : List ℕ) (note : Note) (r : Answered) (first second :
       unfolding stepOf
       long-token = rw (le-ltb _ _ q, ← e, ← f) g
 
-      pub long-bytes : (o₀ o₁ : List ℕ) (k : ℕ) → Written (replyTo n (h .event) (take (h .answer) first) size) o₀ o₁ k → Written (stepOf t s note r first second size .bytes) o₀ o₁ k
+      pub long-bytes : (o₀ o₁ : List ℕ) (k : ℕ) → Written (replyTo (n .points) (h .event) (take (h .answer) first) size) o₀ o₁ k → Written (stepOf t s note r first second size .bytes) o₀ o₁ k
       unfolding stepOf
       long-bytes o₀ o₁ k z = rw (le-ltb _ _ q, ← e, ← f, ← g) z

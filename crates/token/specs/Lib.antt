@@ -1,7 +1,5 @@
 pub mod State
 pub mod Limits
 pub mod After
-pub mod Commands
-pub mod Certify
 pub mod Plan
 pub mod Step

@@ -3,6 +3,7 @@
 use mathlib.Core.Bool.{Bool, cond, not}
 use mathlib.Core.List.{List}
 use Prim.Native.Nat.{ℕ}
+use lib.Dec.{eqb}
 use Rattle.command.specs.declared.kind.Kind.{Kind}
 use Rattle.event.specs.declared.happening.Refusal.the-variants.{Moment, Data, Outside}
 use Rattle.event.specs.declared.happening.Event.the-variants.{Refused, Lost, Challenged, Proven, ProofLost, ChipKeyChosen, Activated, Deactivated, NotPassed}
@@ -20,29 +21,30 @@ use Rattle.fields.specs.declared.asked.Asked.{Asked}
 use Rattle.fields.specs.Asked.{askedOf}
 use Rattle.session.specs.Session.{isOpen}
 use Rattle.session.specs.Moment.{momentOf}
+use Rattle.checks.specs.Commands.{choosePlan, generalPlan, announcePlan, readPlan, changePlan, unblockPlan, activePlan}
+use Rattle.checks.specs.Certify.{selectPlan, verifyPlan}
 use Rattle.token.specs.declared.state.Token.{Token}
+use Rattle.token.specs.State.{tries, contextOf, chainOf}
 use Rattle.token.specs.Limits.{inLimits}
-use Rattle.token.specs.Commands.{choosePlan, generalPlan, announcePlan, readPlan, changePlan, unblockPlan, activePlan}
-use Rattle.token.specs.Certify.{selectPlan, verifyPlan}
 
 -- data, then the command's own checks
 unfoldable pub commandOf : Token → Asked → Ask → Plan
 commandOf t a Bad = settledBy (Refused Data)
-commandOf t a (Choose c) = choosePlan t c
-commandOf t a (General x) = generalPlan t (t .session .context .stage) x
-commandOf t a Select = selectPlan t (a .name)
-commandOf t a Verify = verifyPlan t (t .session .selected) (a .name) (a .point)
-commandOf t a Announce = announcePlan t (a .name) (a .key)
+commandOf t a (Choose c) = choosePlan (t .pin) (t .active) (t .puk) (contextOf t .opened) c
+commandOf t a (General x) = generalPlan (contextOf t) (t .pin) (contextOf t .stage) x
+commandOf t a Select = selectPlan (t .points) (chainOf t) (a .name)
+commandOf t a Verify = verifyPlan (t .points) (chainOf t .dv) (t .today) (t .session .selected) (a .name) (a .point)
+commandOf t a Announce = announcePlan (chainOf t .terminal .name) (a .name) (a .key)
 -- "eight bytes; not passed 6300, same state"
 commandOf t a Challenge = awaitsBy ChallengeJob Challenged NotPassed
 -- "Not passed: 6300, back to announced"
 commandOf t a Prove = awaitsBy Proof Proven ProofLost
 commandOf t a ChooseChipKey = settledBy ChipKeyChosen
-commandOf t a (Read n) = readPlan t n
-commandOf t a ChangePin = changePlan t
-commandOf t a Unblock = unblockPlan t
-commandOf t a Activate = activePlan t Activated
-commandOf t a Deactivate = activePlan t Deactivated
+commandOf t a (Read n) = readPlan (contextOf t) n
+commandOf t a ChangePin = changePlan (contextOf t) (t .active)
+commandOf t a Unblock = unblockPlan (contextOf t) (eqb (t .puk) 0) (eqb (t .pin) tries)
+commandOf t a Activate = activePlan (contextOf t) Activated
+commandOf t a Deactivate = activePlan (contextOf t) Deactivated
 
 -- moment
 unfoldable pub timedOf : Token → Asked → Kind → Bool → Ask → Plan
@@ -62,5 +64,5 @@ guarded Passes p = p
 unfoldable pub planOf : Token → List ℕ → Note → Plan
 planOf t s note =
     cond (not (inLimits t)) (settledBy (Refused Outside))
-    (guarded (guardOf note (isOpen (t .session .context .opened)))
+    (guarded (guardOf note (isOpen (contextOf t .opened)))
     (requestedOf t (askedOf s) (askedOf s .request)))

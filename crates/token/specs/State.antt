@@ -8,6 +8,8 @@ use Rattle.values.specs.declared.word.Word.{Word}
 use Rattle.values.specs.declared.word.Word.the-variants.{Done, Data}
 use Rattle.trust.specs.Trust.{onePoint, pointsFit}
 use Rattle.trust.specs.declared.Points.{Points}
+use Rattle.session.specs.declared.Chain.{Chain}
+use Rattle.session.specs.declared.Context.{Context}
 use Rattle.session.specs.declared.Session.{Session}
 use Rattle.session.specs.Session.{noSession}
 use Rattle.token.specs.declared.state.Token.{Token}
@@ -21,6 +23,13 @@ tries = 3
 
 abbrev pub uses : ℕ
 uses = 10
+
+-- what stands in the session
+abbrev pub contextOf : Token → Context
+contextOf t = t .session .context
+
+abbrev pub chainOf : Token → Chain
+chainOf t = contextOf t .chain
 
 -- ---- a token with one part changed
 

@@ -1,7 +1,5 @@
 // The token: what it keeps, what may happen to it, and one step of it.
 pub mod after;
-pub mod certify;
-pub mod commands;
 pub mod limits;
 pub mod plan;
 pub mod state;

@@ -3,6 +3,8 @@ ghost use mathlib.Core.Path.{_≡_};
 ghost use Rattle.event.specs.Course.{courseJob};
 ghost use Rattle.token.specs.Plan.{commandOf, timedOf, requestedOf, planOf};
 use super::state::Token;
+use checks::certify;
+use checks::commands;
 use command::kind::Kind;
 use event::course::Guard;
 use event::course::Job;
@@ -19,24 +21,35 @@ impl Token {
     fn command(self, a: Asked, ask: Ask) -> Plan
         ensures { λ r. ⌜ r ≡ commandOf self a ask ⌝ }
     {
+        let points = self.points;
+        let session = self.session;
+        let context = session.context;
+        let chain = context.chain;
+        let dv = chain.dv;
+        let terminal = chain.terminal;
         let name = a.name;
-        let point = a.point;
         let key = a.key;
         match ask {
             Ask::Bad => Plan::settled(Event::Refused(Refusal::Data)),
-            Ask::Choose(choice) => self.choose(choice),
-            Ask::General(content) => self.general(content),
-            Ask::Select => self.select(name),
-            Ask::Verify => self.verify(name, point),
-            Ask::Announce => self.announce(name, key),
+            Ask::Choose(choice) => {
+                let o = context.opened;
+                commands::choose(self.pin, self.active, self.puk, o, choice)
+            }
+            Ask::General(content) => commands::general(context, self.pin, content),
+            Ask::Select => certify::select(points, chain, name),
+            Ask::Verify => {
+                let selected = session.selected;
+                certify::verify(points, dv, self.today, selected, name, a.point)
+            }
+            Ask::Announce => commands::announce(terminal.name, name, key),
             Ask::Challenge => Plan::awaits(Job::Challenge, Event::Challenged, Event::NotPassed),
             Ask::Prove => Plan::awaits(Job::Proof, Event::Proven, Event::ProofLost),
             Ask::ChooseChipKey => Plan::settled(Event::ChipKeyChosen),
-            Ask::Read(group) => self.read(group),
-            Ask::ChangePin => self.change_pin(),
-            Ask::Unblock => self.unblock(),
-            Ask::Activate => self.set_active(Event::Activated),
-            Ask::Deactivate => self.set_active(Event::Deactivated),
+            Ask::Read(group) => commands::read(context, group),
+            Ask::ChangePin => commands::change_pin(context, self.active),
+            Ask::Unblock => commands::unblock(context, self.puk == 0, self.pin == Token::TRIES),
+            Ask::Activate => commands::set_active(context, Event::Activated),
+            Ask::Deactivate => commands::set_active(context, Event::Deactivated),
         }
     }
 

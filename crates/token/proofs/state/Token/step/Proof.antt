@@ -1,6 +1,6 @@
 -- `token::state::Token::step` meets its contract. Assumes nothing.
 use borrow.Author.Needs.{needs}
-use Rattle.token.proofs.Ends.{short-token, short-bytes, long-token, long-bytes, answer-part, answer-size}
+use Rattle.token.proofs.Ends.{short-token, short-bytes, long-token, long-bytes, answer-size}
 use Rattle.token.proofs.state.Token.step.Statement.{statement}
 use Rattle.token.proofs.state.Token.step.Tie as tie
 
@@ -12,7 +12,7 @@ step-spec =
     (λ c κs. search needs)
     (λ c κs. search needs)
     (λ c κs. search needs)
-    (λ c. search (answer-part, answer-size) depth 8)
+    (λ c. search answer-size depth 8)
     (λ c κs. search needs)
     (λ c. search needs)
     (λ c. (search long-token depth 8, search long-bytes depth 8)))

@@ -1,0 +1,69 @@
+-- The reply to an event. Assumes nothing: these are definitions.
+use Prim.Native.Nat.{ℕ}
+use mathlib.Core.List.{List}
+use Rattle.values.specs.Words.{number}
+use Rattle.event.specs.declared.run.Step.{Step}
+use Rattle.event.specs.declared.run.Step.the-variants.{Nonce, Map, Agree, Confirm}
+use Rattle.event.specs.declared.happening.Refusal.{Refusal}
+use Rattle.event.specs.declared.happening.Refusal.the-variants.{Length, Lacking, Blocked, Expired, Moment, Data, Parameters, NotFound, Instruction, Class, Outside}
+use Rattle.event.specs.declared.happening.Event.{Event}
+use Rattle.event.specs.declared.happening.Event.the-variants.{Refused, Lost, Chosen, StepPassed, Opened, RunClosed, TrialLost, Selected, LinkTaken, DvTaken, TerminalTaken, Announced, Challenged, Proven, ProofLost, ChipKeyChosen, Authenticated, ChipLost, ReadAllowed, PinChanged, UnblockedByPuk, UnblockedByRight, Activated, Deactivated, NotPassed}
+use Rattle.event.specs.Event.{wordOf}
+use Rattle.trust.specs.declared.Points.{Points}
+use Rattle.reply.specs.declared.Layout.{Layout}
+use Rattle.reply.specs.declared.Layout.the-variants.{Silent, Bare, Flat, Nest, Confirmed, Pair}
+use Rattle.reply.specs.Reply.{replyOf}
+
+-- "Reply 7C holding 80, 82, 84, 86"
+abbrev pub stepTag : Step → ℕ
+stepTag Nonce = 0x80
+stepTag Map = 0x82
+stepTag Agree = 0x84
+stepTag Confirm = 0x86
+
+-- "Refusals have no data"; 6F00 has not even its word
+abbrev pub refusedLayout : Refusal → Layout
+refusedLayout Length = Bare
+refusedLayout Lacking = Bare
+refusedLayout Blocked = Bare
+refusedLayout Expired = Bare
+refusedLayout Moment = Bare
+refusedLayout Data = Bare
+refusedLayout Parameters = Bare
+refusedLayout NotFound = Bare
+refusedLayout Instruction = Bare
+refusedLayout Class = Bare
+refusedLayout Outside = Silent
+
+unfoldable pub layoutOf : Event → Layout
+layoutOf (Refused w) = refusedLayout w
+layoutOf (Lost l) = Bare
+layoutOf (Chosen c left) = Bare
+layoutOf (StepPassed c p) = Nest (stepTag p)
+-- "The fourth adds 87 newest trust point name, 88 the previous if held"
+layoutOf (Opened c) = Confirmed
+layoutOf RunClosed = Bare
+layoutOf (TrialLost left) = Bare
+layoutOf (Selected i) = Bare
+layoutOf LinkTaken = Bare
+layoutOf (DvTaken r) = Bare
+layoutOf TerminalTaken = Bare
+layoutOf Announced = Bare
+layoutOf Challenged = Flat
+layoutOf Proven = Bare
+layoutOf ProofLost = Bare
+layoutOf ChipKeyChosen = Bare
+-- "Reply 7C holding 81, 82"
+layoutOf Authenticated = Pair
+layoutOf ChipLost = Bare
+layoutOf ReadAllowed = Bare
+layoutOf PinChanged = Bare
+layoutOf UnblockedByPuk = Bare
+layoutOf UnblockedByRight = Bare
+layoutOf Activated = Bare
+layoutOf Deactivated = Bare
+layoutOf NotPassed = Bare
+
+-- the reply to an event, with the trust points held after it, in a buffer of this size
+unfoldable pub replyTo : Points → Event → List ℕ → ℕ → List ℕ
+replyTo h e first size = replyOf size (layoutOf e) (number (wordOf e)) first (h .newest .name) (h .previous .name) (h .two)

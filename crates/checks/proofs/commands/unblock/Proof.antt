@@ -1,0 +1,16 @@
+-- `checks::commands::unblock` meets its contract. Assumes nothing.
+use borrow.Author.Needs.{needs}
+use Rattle.checks.proofs.Checks.{checks}
+use Rattle.checks.proofs.commands.unblock.Statement.{statement}
+use Rattle.checks.proofs.commands.unblock.Tie as tie
+
+pub unblock-spec : {M : Type 1} → statement M
+unblock-spec =
+    tie.close
+    (tie.spec
+    (λ c κs. search needs)
+    (λ c κs. search needs)
+    (λ c κs. search needs)
+    (λ c κs. search needs)
+    (λ c κs. search needs)
+    (λ c. search checks depth 8))
