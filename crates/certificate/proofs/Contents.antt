@@ -18,12 +18,12 @@ use Rattle.objects.specs.declared.Count.the-variants.{Objects, Refused}
 use Rattle.objects.specs.declared.Found.the-variants.{Content}
 use Rattle.objects.proofs.Counts.{plus-within, kept-count}
 use Rattle.objects.proofs.Chain.{rest, flat-counts}
-use Rattle.values.specs.Bytes.{eqbs}
-use Rattle.values.specs.Rights.{isRights, template}
-use Rattle.values.proofs.Strings.{same-lengths, eqbs-true}
-use Rattle.values.specs.Names.{noName}
+use Rattle.strings.specs.Bytes.{eqbs}
+use Rattle.rights.specs.Rights.{isRights, template}
+use Rattle.strings.proofs.Strings.{same-lengths, eqbs-true}
+use Rattle.strings.specs.Names.{noName}
 use Rattle.values.specs.Points.{noPoint}
-use Rattle.values.specs.declared.name.Name.{Name}
+use Rattle.strings.specs.declared.name.Name.{Name}
 use Rattle.values.specs.declared.point.Point.{Point}
 use Rattle.certificate.specs.Body.{mechanism, isKey, keyObjects, noPlace, unread}
 use Rattle.certificate.specs.declared.Reading.{Reading}

@@ -9,15 +9,17 @@ use Rattle.laws.proofs.Bools.{of-both, and-l, and-r, true-false}
 use Rattle.objects.specs.Objects.{part, objectsIn}
 use Rattle.objects.specs.Chain.{taken}
 use Rattle.objects.proofs.Chain.{taken-all, answered-all}
-use Rattle.values.specs.Bytes.{eqbs}
-use Rattle.values.specs.Names.{isName, nameOf, nameFits}
+use Rattle.strings.specs.Bytes.{eqbs}
+use Rattle.strings.specs.Names.{isName, nameOf, nameFits}
 use Rattle.values.specs.Days.{isDay, dayOf, dayFits, before}
-use Rattle.values.specs.Rights.{isRights, rightsOf, rightsFit}
+use Rattle.rights.specs.Rights.{isRights, rightsOf, rightsFit}
 use Rattle.values.specs.Points.{pointFits}
-use Rattle.values.specs.declared.name.Name.{Name}
+use Rattle.strings.specs.declared.name.Name.{Name}
 use Rattle.values.specs.declared.day.Day.{Day}
-use Rattle.values.specs.declared.rights.Rights.{Rights}
-use Rattle.values.proofs.Kept.{name-good, day-good, rights-good}
+use Rattle.rights.specs.declared.Rights.{Rights}
+use Rattle.strings.proofs.Kept.{name-good}
+use Rattle.values.proofs.Kept.{day-good}
+use Rattle.rights.proofs.Kept.{rights-good}
 use Rattle.certificate.specs.Body.{unread, read, any, ended, placeOf, isLast, isKey, isSignature, Pending, bodyOf, wholeOf, signedOf, signedWhole, versionThen, issuerThen, keyThen, ownThen, rightsThen, firstThen, lastThen, extThen}
 use Rattle.certificate.specs.declared.Place.{Place}
 use Rattle.certificate.specs.declared.Body.{Body}

@@ -11,14 +11,14 @@ use Rattle.objects.specs.declared.Count.the-variants.{Refused}
 use Rattle.objects.specs.Chain.{answered, taken}
 use Rattle.objects.specs.declared.Found.{Found}
 use Rattle.objects.specs.declared.Found.the-variants.{Content, Missing}
-use Rattle.values.specs.Bytes.{eqbs, among}
-use Rattle.values.specs.Names.{isName, nameOf, noName}
+use Rattle.strings.specs.Bytes.{eqbs, among}
+use Rattle.strings.specs.Names.{isName, nameOf, noName}
 use Rattle.values.specs.Days.{isDay, dayOf, before}
-use Rattle.values.specs.Rights.{isRights, rightsOf}
+use Rattle.rights.specs.Rights.{isRights, rightsOf}
 use Rattle.values.specs.Points.{noPoint}
-use Rattle.values.specs.declared.name.Name.{Name}
+use Rattle.strings.specs.declared.name.Name.{Name}
 use Rattle.values.specs.declared.day.Day.{Day}
-use Rattle.values.specs.declared.rights.Rights.{Rights}
+use Rattle.rights.specs.declared.Rights.{Rights}
 use Rattle.values.specs.declared.word.Word.{Word}
 use Rattle.values.specs.declared.word.Word.the-variants.{Done, Data}
 use Rattle.certificate.specs.declared.Place.{Place}

@@ -1,16 +1,16 @@
 // The body of a certificate, 7F4E: one pass over its objects, each field taken as it passes.
 use objects::Count;
 use objects::Found;
-use values::bytes::same;
+use rights::Granted;
+use rights::Rights;
+use rights::rights_of;
+use strings::bytes::same;
+use strings::name::Name;
+use strings::name::is_name;
 use values::day::Dated;
 use values::day::Day;
 use values::day::day_of;
-use values::name::Name;
-use values::name::is_name;
 use values::point::Point;
-use values::rights::Granted;
-use values::rights::Rights;
-use values::rights::rights_of;
 ghost use mathlib.Core.Path.{_≡_};
 ghost use Prim.Native.Nat.{_+_, _≤_};
 ghost use lib.ListN.{length};

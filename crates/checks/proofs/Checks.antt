@@ -4,16 +4,16 @@ use Prim.Native.Nat.{ℕ}
 use mathlib.Core.Bool.{Bool, true, false, not, _&&_, _||_}
 use mathlib.Core.Path.{_≡_, sym, ap, _∙_}
 use lib.Dec.{eqb}
-use Rattle.values.specs.Names.{sameName}
+use Rattle.strings.specs.Names.{sameName}
 use Rattle.values.specs.Points.{noPoint, expired}
-use Rattle.values.specs.Keys.{noKey}
-use Rattle.values.specs.Rights.{hasRight, readsGroup, roleOf, isCvca, isTerminal}
+use Rattle.strings.specs.Keys.{noKey}
+use Rattle.rights.specs.Rights.{hasRight, readsGroup, roleOf, isCvca, isTerminal}
 use Rattle.values.specs.declared.day.Day.{Day}
-use Rattle.values.specs.declared.name.Name.{Name}
-use Rattle.values.specs.declared.key.Key.{Key}
+use Rattle.strings.specs.declared.name.Name.{Name}
+use Rattle.strings.specs.declared.key.Key.{Key}
 use Rattle.values.specs.declared.point.Point.{Point}
-use Rattle.values.specs.declared.rights.Rights.{Rights}
-use Rattle.values.specs.declared.rights.Role.{Role}
+use Rattle.rights.specs.declared.Rights.{Rights}
+use Rattle.rights.specs.declared.Role.{Role}
 use Rattle.event.specs.declared.run.Choice.{Choice}
 use Rattle.event.specs.declared.run.Password.{Password}
 use Rattle.event.specs.declared.run.Step.{Step}
@@ -23,11 +23,11 @@ use Rattle.event.specs.declared.happening.Issuer.{Issuer}
 use Rattle.event.specs.declared.happening.Issuer.the-variants.{Dv}
 use Rattle.event.specs.declared.happening.Event.{Event}
 use Rattle.event.specs.declared.happening.Event.the-variants.{Refused, Selected as IsSelected, Announced as IsAnnounced, Authenticated as IsAuthenticated, ChipLost, ReadAllowed, PinChanged, NotPassed}
-use Rattle.event.specs.declared.course.Job.the-variants.{Step as StepJob, ChipKey, PinChange}
-use Rattle.event.specs.declared.course.Course.{Course}
-use Rattle.event.specs.declared.course.Course.the-variants.{Settled, Awaits}
-use Rattle.event.specs.declared.course.Plan.{Plan}
-use Rattle.event.specs.Course.{settledBy, awaitsBy}
+use Rattle.settle.specs.declared.course.Job.the-variants.{Step as StepJob, ChipKey, PinChange}
+use Rattle.settle.specs.declared.course.Course.{Course}
+use Rattle.settle.specs.declared.course.Course.the-variants.{Settled, Awaits}
+use Rattle.settle.specs.declared.course.Plan.{Plan}
+use Rattle.settle.specs.Course.{settledBy, awaitsBy}
 use Rattle.order.specs.Order.{chooseLadder, passedEvent, otherEvent, issues, takenEvent, verifyLadder, grounded, unblockLadder}
 use Rattle.trust.specs.Trust.{found, knows, holderOf}
 use Rattle.trust.specs.declared.Points.{Points}
@@ -35,12 +35,12 @@ use Rattle.trust.specs.declared.Anchor.{Anchor}
 use Rattle.trust.specs.declared.Anchor.the-variants.{Is, Unknown}
 use Rattle.fields.specs.declared.asked.Content.{Content}
 use Rattle.fields.specs.declared.asked.Content.the-variants.{Step as StepData, Chip}
-use Rattle.session.specs.declared.Opened.{Opened}
-use Rattle.session.specs.declared.Chain.{Chain}
+use Rattle.standing.specs.declared.Opened.{Opened}
+use Rattle.standing.specs.declared.Chain.{Chain}
 use Rattle.session.specs.declared.Context.{Context}
-use Rattle.session.specs.declared.Stage.{Stage}
-use Rattle.session.specs.declared.Selected.{Selected}
-use Rattle.session.specs.Session.{openedByPin, openedByCan, openedByPuk, hasDv}
+use Rattle.standing.specs.declared.Stage.{Stage}
+use Rattle.standing.specs.declared.Selected.{Selected}
+use Rattle.standing.specs.Standing.{openedByPin, openedByCan, openedByPuk, hasDv}
 use Rattle.session.specs.Authorization.{authorization}
 use Rattle.checks.specs.Commands.{isFor, choosePlan, runPlan, chipPlan, generalPlan, announcePlan, readPlan, changePlan, unblockPlan, activePlan}
 use Rattle.checks.specs.Certify.{selectPlan, repeats, late, heldCourse, underCourse, underPlan, verifyPlan}

@@ -3,18 +3,18 @@ use Prim.Native.Nat.{ℕ}
 use mathlib.Core.Bool.{Bool}
 use Rattle.laws.proofs.Pinned.{Pinned, pinned}
 use Rattle.values.specs.declared.day.Day.{Day}
-use Rattle.values.specs.declared.key.Key.{Key}
-use Rattle.values.specs.declared.name.Name.{Name}
+use Rattle.strings.specs.declared.key.Key.{Key}
+use Rattle.strings.specs.declared.name.Name.{Name}
 use Rattle.values.specs.declared.point.Point.{Point}
 use Rattle.event.specs.declared.run.Choice.{Choice}
 use Rattle.event.specs.declared.happening.Event.{Event}
-use Rattle.event.specs.declared.course.Plan.{Plan}
+use Rattle.settle.specs.declared.course.Plan.{Plan}
 use Rattle.fields.specs.declared.asked.Content.{Content}
 use Rattle.trust.specs.declared.Points.{Points}
-use Rattle.session.specs.declared.Opened.{Opened}
-use Rattle.session.specs.declared.Chain.{Chain}
+use Rattle.standing.specs.declared.Opened.{Opened}
+use Rattle.standing.specs.declared.Chain.{Chain}
 use Rattle.session.specs.declared.Context.{Context}
-use Rattle.session.specs.declared.Selected.{Selected}
+use Rattle.standing.specs.declared.Selected.{Selected}
 use Rattle.checks.specs.Commands.{choosePlan, generalPlan, announcePlan, readPlan, changePlan, unblockPlan, activePlan}
 use Rattle.checks.specs.Certify.{selectPlan, verifyPlan}
 

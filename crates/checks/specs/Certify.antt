@@ -1,29 +1,29 @@
 -- Select issuer and verify certificate. Assumes nothing: these are definitions.
 use mathlib.Core.Bool.{Bool, cond, not, _&&_, _||_}
-use Rattle.values.specs.Names.{sameName}
+use Rattle.strings.specs.Names.{sameName}
 use Rattle.values.specs.Points.{expired}
-use Rattle.values.specs.Keys.{noKey}
-use Rattle.values.specs.Rights.{roleOf, isCvca, isTerminal}
+use Rattle.strings.specs.Keys.{noKey}
+use Rattle.rights.specs.Rights.{roleOf, isCvca, isTerminal}
 use Rattle.values.specs.declared.day.Day.{Day}
-use Rattle.values.specs.declared.name.Name.{Name}
+use Rattle.strings.specs.declared.name.Name.{Name}
 use Rattle.values.specs.declared.point.Point.{Point}
-use Rattle.values.specs.declared.rights.Role.{Role}
+use Rattle.rights.specs.declared.Role.{Role}
 use Rattle.event.specs.declared.happening.Refusal.the-variants.{Moment, NotFound}
 use Rattle.event.specs.declared.happening.Issuer.{Issuer}
 use Rattle.event.specs.declared.happening.Issuer.the-variants.{Dv}
 use Rattle.event.specs.declared.happening.Event.the-variants.{Refused, Selected as IsSelected}
-use Rattle.event.specs.declared.course.Course.{Course}
-use Rattle.event.specs.declared.course.Plan.{Plan}
-use Rattle.event.specs.Course.{settledBy}
+use Rattle.settle.specs.declared.course.Course.{Course}
+use Rattle.settle.specs.declared.course.Plan.{Plan}
+use Rattle.settle.specs.Course.{settledBy}
 use Rattle.order.specs.Order.{issues, takenEvent, verifyLadder}
 use Rattle.trust.specs.Trust.{found, knows, holderOf}
 use Rattle.trust.specs.declared.Points.{Points}
 use Rattle.trust.specs.declared.Anchor.{Anchor}
 use Rattle.trust.specs.declared.Anchor.the-variants.{Is, Unknown}
-use Rattle.session.specs.declared.Selected.{Selected}
-use Rattle.session.specs.declared.Selected.the-variants.{NoIssuer, Of}
-use Rattle.session.specs.declared.Chain.{Chain}
-use Rattle.session.specs.Session.{hasDv}
+use Rattle.standing.specs.declared.Selected.{Selected}
+use Rattle.standing.specs.declared.Selected.the-variants.{NoIssuer, Of}
+use Rattle.standing.specs.declared.Chain.{Chain}
+use Rattle.standing.specs.Standing.{hasDv}
 
 -- "Selectable: trust points and the chain's DV"; a name that is neither's is 6A88
 abbrev pub selectBy : Chain → Name → Anchor → Plan

@@ -2,29 +2,29 @@
 use Prim.Native.Nat.{ℕ}
 use mathlib.Core.Bool.{Bool, false, cond, not, _&&_, _||_}
 use lib.Dec.{eqb}
-use Rattle.values.specs.Names.{sameName}
+use Rattle.strings.specs.Names.{sameName}
 use Rattle.values.specs.Points.{noPoint}
-use Rattle.values.specs.Rights.{hasRight, readsGroup}
-use Rattle.values.specs.declared.name.Name.{Name}
-use Rattle.values.specs.declared.key.Key.{Key}
+use Rattle.rights.specs.Rights.{hasRight, readsGroup}
+use Rattle.strings.specs.declared.name.Name.{Name}
+use Rattle.strings.specs.declared.key.Key.{Key}
 use Rattle.event.specs.declared.run.Choice.{Choice}
 use Rattle.event.specs.declared.run.Step.{Step}
 use Rattle.event.specs.Run.{passwordOf, isPin, isPuk, stepNumber}
 use Rattle.event.specs.declared.happening.Refusal.the-variants.{Lacking, Moment, Data, NotFound}
 use Rattle.event.specs.declared.happening.Event.{Event}
 use Rattle.event.specs.declared.happening.Event.the-variants.{Refused, Announced as IsAnnounced, Authenticated as IsAuthenticated, ChipLost, ReadAllowed, PinChanged, NotPassed}
-use Rattle.event.specs.declared.course.Job.the-variants.{Step as StepJob, ChipKey, PinChange}
-use Rattle.event.specs.declared.course.Course.the-variants.{Settled, Awaits}
-use Rattle.event.specs.declared.course.Plan.{Plan}
-use Rattle.event.specs.Course.{settledBy, awaitsBy}
+use Rattle.settle.specs.declared.course.Job.the-variants.{Step as StepJob, ChipKey, PinChange}
+use Rattle.settle.specs.declared.course.Course.the-variants.{Settled, Awaits}
+use Rattle.settle.specs.declared.course.Plan.{Plan}
+use Rattle.settle.specs.Course.{settledBy, awaitsBy}
 use Rattle.order.specs.Order.{chooseLadder, passedEvent, otherEvent, grounded, unblockLadder}
 use Rattle.fields.specs.declared.asked.Content.{Content}
 use Rattle.fields.specs.declared.asked.Content.the-variants.{Step as StepData, Chip}
-use Rattle.session.specs.declared.Stage.{Stage}
-use Rattle.session.specs.declared.Stage.the-variants.{Idle, Run, Announced, Challenged, Proven, ChipKeyChosen, Authenticated}
+use Rattle.standing.specs.declared.Stage.{Stage}
+use Rattle.standing.specs.declared.Stage.the-variants.{Idle, Run, Announced, Challenged, Proven, ChipKeyChosen, Authenticated}
 use Rattle.session.specs.declared.Context.{Context}
-use Rattle.session.specs.declared.Opened.{Opened}
-use Rattle.session.specs.Session.{openedByPin, openedByCan, openedByPuk}
+use Rattle.standing.specs.declared.Opened.{Opened}
+use Rattle.standing.specs.Standing.{openedByPin, openedByCan, openedByPuk}
 use Rattle.session.specs.Authorization.{authorization}
 
 -- "Bit 5 is that of the effective authorization"

@@ -1,20 +1,20 @@
 // Select issuer and verify certificate.
 ghost use mathlib.Core.Path.{_≡_};
 ghost use Rattle.checks.specs.Certify.{selectPlan, repeats, late, underCourse, underPlan, verifyPlan};
-use event::course::Course;
-use event::course::Plan;
 use event::happening::Event;
 use event::happening::Issuer;
 use event::happening::Refusal;
-use session::Chain;
-use session::Selected;
+use rights::Role;
+use settle::course::Course;
+use settle::course::Plan;
+use standing::Chain;
+use standing::Selected;
+use strings::key::Key;
+use strings::name::Name;
 use trust::Anchor;
 use trust::Points;
 use values::day::Day;
-use values::key::Key;
-use values::name::Name;
 use values::point::Point;
-use values::rights::Role;
 
 pub fn select(points: Points, chain: Chain, name: Name) -> Plan
     ensures { λ r. ⌜ r ≡ selectPlan points chain name ⌝ }

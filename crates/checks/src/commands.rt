@@ -1,22 +1,22 @@
 // The checks of each command, certificates apart.
 ghost use mathlib.Core.Path.{_≡_};
-ghost use Rattle.event.specs.Course.{settledBy};
+ghost use Rattle.settle.specs.Course.{settledBy};
 ghost use Rattle.event.specs.declared.happening.Event.the-variants.{Refused};
 ghost use Rattle.event.specs.declared.happening.Refusal.the-variants.{Data};
 ghost use Rattle.checks.specs.Commands.{isFor, choosePlan, runPlan, chipPlan, generalPlan, announcePlan, readPlan, changePlan, unblockPlan, activePlan};
-use event::course::Course;
-use event::course::Job;
-use event::course::Plan;
 use event::happening::Event;
 use event::happening::Refusal;
 use event::run::Choice;
 use event::run::Step;
 use fields::asked::Content;
 use session::Context;
-use session::Opened;
-use session::Stage;
-use values::key::Key;
-use values::name::Name;
+use settle::course::Course;
+use settle::course::Job;
+use settle::course::Plan;
+use standing::Opened;
+use standing::Stage;
+use strings::key::Key;
+use strings::name::Name;
 use values::point::Point;
 
 // Whether 7C holds the data of this step.

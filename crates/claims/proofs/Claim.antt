@@ -2,11 +2,11 @@
 use mathlib.Core.Path.{refl}
 use Rattle.objects.specs.Objects.{objectsIn, objects, objectsOf, foundIn, headerOf, tagOf, tag2, lenOf, len1, len2}
 use Rattle.objects.specs.Chain.{counted, taken}
-use Rattle.values.specs.Bytes.{copiedInto}
-use Rattle.values.specs.Names.{isName, nameOf, noName, nameFits, sameName}
-use Rattle.values.specs.Keys.{keyOf, noKey, keyFits, keyStands}
+use Rattle.strings.specs.Bytes.{copiedInto}
+use Rattle.strings.specs.Names.{isName, nameOf, noName, nameFits, sameName}
+use Rattle.strings.specs.Keys.{keyOf, noKey, keyFits, keyStands}
 use Rattle.values.specs.Days.{isDate, dayFits, isDay, before, later}
-use Rattle.values.specs.Rights.{rightsFit, roleOf, isRights, andOf, common, groupMask, readsGroup}
+use Rattle.rights.specs.Rights.{rightsFit, roleOf, isRights, andOf, common, groupMask, readsGroup}
 use Rattle.values.specs.Points.{noPoint, pointFits, expired, withKey}
 use Rattle.values.specs.Words.{number}
 use Rattle.certificate.specs.Body.{isKey, isSignature, wholeOf, signedWhole, signedOf, versionThen, issuerThen, keyThen, ownThen, rightsThen, firstThen, lastThen, extThen}
@@ -14,8 +14,8 @@ use Rattle.command.specs.Form.{formOf, afterHeader, bodyOf, extendedOf, shortOf
 use Rattle.command.specs.Kind.{kindOf}
 use Rattle.command.specs.Shape.{shapeOf, headedOf}
 use Rattle.event.specs.Event.{wordOf}
-use Rattle.event.specs.Course.{settledBy, awaitsBy}
-use Rattle.event.specs.Settle.{endsBy, passesBy, judgedOf, awaitedOf, courseOf}
+use Rattle.settle.specs.Course.{settledBy, awaitsBy}
+use Rattle.settle.specs.Settle.{endsBy, passesBy, judgedOf, awaitedOf, courseOf}
 use Rattle.fields.specs.Taking.{reading, lastly, fitted, lastOf, holds}
 use Rattle.fields.specs.Given.{only, verifying}
 use Rattle.fields.specs.Choice.{choiceOf, protocolThen, passwordThen, chosenBy}
@@ -26,7 +26,7 @@ use Rattle.fields.specs.Asked.{dataOf, asking, askedOf}
 use Rattle.reply.specs.Bytes.{lengthBytes, object}
 use Rattle.reply.specs.Reply as reply
 use Rattle.trust.specs.Trust.{anchorFits, onePoint, pointsFit, knows, found, linked}
-use Rattle.session.specs.Session.{noChain}
+use Rattle.standing.specs.Standing.{noChain}
 use Rattle.session.specs.Moment.{momentOf}
 use Rattle.session.specs.Fits.{rootFits, dvFits, terminalFits, chainFits, groundFits, contextFits}
 use Rattle.session.specs.Authorization.{sharedBy, authorization}

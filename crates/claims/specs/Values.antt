@@ -7,34 +7,35 @@ use mathlib.Core.List.{List, [], _∷_}
 use lib.ListN.{replicate}
 use Rattle.objects.specs.Objects.{headerOf}
 use Rattle.objects.specs.declared.Head.the-variants.{Header, NoHeader}
-use Rattle.values.specs.Names.{nameOf}
-use Rattle.values.specs.Keys.{keyOf}
+use Rattle.strings.specs.Names.{nameOf}
+use Rattle.strings.specs.Keys.{keyOf}
 use Rattle.values.specs.Points.{noPoint}
-use Rattle.values.specs.Rights.{common, groupMask, readsGroup}
-use Rattle.values.specs.declared.name.Name.{Name}
+use Rattle.rights.specs.Rights.{common, groupMask, readsGroup}
+use Rattle.strings.specs.declared.name.Name.{Name}
 use Rattle.values.specs.declared.point.Point.{Point}
-use Rattle.values.specs.declared.rights.Rights.{Rights}
-use Rattle.values.specs.declared.rights.Granted.the-variants.{These, NoRights}
+use Rattle.rights.specs.declared.Rights.{Rights}
+use Rattle.rights.specs.declared.Granted.the-variants.{These, NoRights}
 use Rattle.event.specs.declared.run.Password.{Password}
 use Rattle.event.specs.declared.run.Password.the-variants.{Can, Pin}
 use Rattle.event.specs.declared.run.Choice.the-variants.{Pin as ChosenPin}
 use Rattle.event.specs.declared.run.Step.the-variants.{Confirm}
 use Rattle.event.specs.declared.happening.Issuer.{Issuer}
 use Rattle.event.specs.declared.happening.Issuer.the-variants.{Newest, Dv}
-use Rattle.event.specs.declared.course.Note.the-variants.{Plain, Protected}
-use Rattle.event.specs.declared.course.Job.the-variants.{Nothing, Step, Certificate}
-use Rattle.event.specs.declared.settle.Answered.{Answered}
-use Rattle.event.specs.declared.settle.Verdict.the-variants.{Passed, Failed, Missing}
+use Rattle.settle.specs.declared.course.Note.the-variants.{Plain, Protected}
+use Rattle.settle.specs.declared.course.Job.the-variants.{Nothing, Step, Certificate}
+use Rattle.settle.specs.declared.verdict.Answered.{Answered}
+use Rattle.settle.specs.declared.verdict.Verdict.the-variants.{Passed, Failed, Missing}
 use Rattle.trust.specs.Trust.{onePoint}
-use Rattle.session.specs.declared.Opened.{Opened}
-use Rattle.session.specs.declared.Opened.the-variants.{Nobody, By}
-use Rattle.session.specs.declared.Reach.the-variants.{ToDv, ToTerminal}
-use Rattle.session.specs.declared.Chain.{Chain}
-use Rattle.session.specs.declared.Stage.{Stage}
-use Rattle.session.specs.declared.Stage.the-variants.{Idle, Run, Proven, Authenticated}
+use Rattle.standing.specs.declared.Opened.{Opened}
+use Rattle.standing.specs.declared.Opened.the-variants.{Nobody, By}
+use Rattle.standing.specs.declared.Reach.the-variants.{ToDv, ToTerminal}
+use Rattle.standing.specs.declared.Chain.{Chain}
+use Rattle.standing.specs.declared.Stage.{Stage}
+use Rattle.standing.specs.declared.Stage.the-variants.{Idle, Run, Proven, Authenticated}
 use Rattle.session.specs.declared.Context.{Context}
 use Rattle.session.specs.declared.Session.{Session}
-use Rattle.session.specs.Session.{noChain, bareSession, chainedTo, announcedWith, atStage, selecting}
+use Rattle.standing.specs.Standing.{noChain}
+use Rattle.session.specs.Session.{bareSession, chainedTo, announcedWith, atStage, selecting}
 use Rattle.session.specs.Authorization.{authorization}
 use Rattle.token.specs.declared.state.Token.{Token}
 use Rattle.token.specs.State.{startOf, withPin, withSession}

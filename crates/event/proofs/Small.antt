@@ -1,58 +1,23 @@
--- The small functions: each arm of a match, and the plans' empty parts. Assumes nothing.
+-- The small functions: each arm of a match. Assumes nothing.
 use borrow.Author.Needs.{needs}
 use Prim.Native.Nat.{ℕ}
 use mathlib.Core.Bool.{Bool, true, false, _&&_}
 use mathlib.Core.Path.{_≡_, sym, ap, _∙_}
-use mathlib.Core.List.{List}
-use lib.Dec.{ltb, eqb}
-use Rattle.values.specs.Bytes.{among, longest}
-use Rattle.values.specs.Points.{noPoint}
-use Rattle.values.specs.Keys.{noKey}
-use Rattle.values.specs.declared.rights.Granted.{Granted}
+use lib.Dec.{ltb}
+use Rattle.rights.specs.declared.Granted.{Granted}
 use Rattle.values.specs.declared.word.Word.{Word}
 use Rattle.values.specs.declared.word.Word.the-variants.{Done, Tries}
-use Rattle.values.specs.declared.point.Point.{Point}
-use Rattle.values.specs.declared.key.Key.{Key}
 use Rattle.event.specs.declared.run.Choice.{Choice}
 use Rattle.event.specs.declared.run.Password.{Password}
-use Rattle.event.specs.declared.run.Step.{Step}
 use Rattle.event.specs.declared.happening.Event.{Event}
-use Rattle.event.specs.declared.course.Note.{Note}
-use Rattle.event.specs.declared.course.Guard.{Guard}
-use Rattle.event.specs.declared.course.Job.{Job}
-use Rattle.event.specs.declared.course.Job.the-variants.{Step as StepJob}
-use Rattle.event.specs.declared.course.Course.{Course}
-use Rattle.event.specs.declared.course.Course.the-variants.{Settled, Awaits}
-use Rattle.event.specs.declared.course.Plan.{Plan}
-use Rattle.event.specs.declared.settle.Happened.{Happened}
-use Rattle.event.specs.Run.{passwordOf, rightsNamed, isPin, isLast}
+use Rattle.event.specs.Run.{passwordOf, rightsNamed, isPin}
 use Rattle.event.specs.Event.{chosenWord, wordOf}
-use Rattle.event.specs.Course.{settledBy, awaitsBy, guardOf, courseJob}
-use Rattle.event.specs.Settle.{jobFits, jobNumber, matches, takenIn, passesBy}
 
 pub rights-arm : (x d : Choice) (r : Granted) → x ≡ d → r ≡ rightsNamed d → r ≡ rightsNamed x
 rights-arm x d r e z = z ∙ ap rightsNamed (sym e)
 
 pub word-arm : (x d : Event) (r : Word) → x ≡ d → r ≡ wordOf d → r ≡ wordOf x
 word-arm x d r e z = z ∙ ap wordOf (sym e)
-
-pub guard-arm : (o : Bool) (x d : Note) (r : Guard) → x ≡ d → r ≡ guardOf d o → r ≡ guardOf x o
-guard-arm o x d r e z = z ∙ ap (λ (y : Note). guardOf y o) (sym e)
-
-pub job-arm : (x d : Course) (r : Job) → x ≡ d → r ≡ courseJob d → r ≡ courseJob x
-job-arm x d r e z = z ∙ ap courseJob (sym e)
-
-pub number-arm : (x d : Job) (r : ℕ) → x ≡ d → r ≡ jobNumber d → r ≡ jobNumber x
-number-arm x d r e z = z ∙ ap jobNumber (sym e)
-
-pub fits-arm : (a b : ℕ) (x d : Job) (r : Bool) → x ≡ d → r ≡ jobFits d a b → r ≡ jobFits x a b
-fits-arm a b x d r e z = z ∙ ap (λ (y : Job). jobFits y a b) (sym e)
-
-pub matches-arm : (k : Key) (s : List ℕ) (x d : Job) (r : Bool) → x ≡ d → r ≡ matches d k s → r ≡ matches x k s
-matches-arm k s x d r e z = z ∙ ap (λ (y : Job). matches y k s) (sym e)
-
-pub taken-arm : (p : Point) (n : ℕ) (x d : Job) (r : Point) → x ≡ d → r ≡ takenIn d p n → r ≡ takenIn x p n
-taken-arm p n x d r e z = z ∙ ap (λ (y : Job). takenIn y p n) (sym e)
 
 -- ---- the word of a choice
 
@@ -63,29 +28,4 @@ module _ (c : Choice) (left : ℕ) (w : Password) (p : Bool) (e : w ≡ password
   pub chosen-many : p && ltb left 3 ≡ false → Done ≡ chosenWord c left
   chosen-many h = rw (← e, ← f, h)
 
--- ---- the lengths of a step's strings
-
-module _ (a b : ℕ) (j : Job) (p : Step) (e : j ≡ StepJob p) (l : Bool) (f : l ≡ isLast p) where
-  pub step-last : l ≡ true → eqb a 8 && eqb b 0 ≡ jobFits j a b
-  step-last h = rw (e, ← f, h)
-
-  pub step-other : l ≡ false → among 1 longest a && eqb b 0 ≡ jobFits j a b
-  step-other h = rw (e, ← f, h)
-
--- ---- plans, and what happened
-
-module _ (p : Point) (k : Key) (h : p ≡ noPoint) (i : k ≡ noKey) where
-  pub settled-is : (e : Event) → _≡_ {A = Plan} (record { course = Settled e; point = p; key = k }) (settledBy e)
-  unfolding settledBy
-  settled-is e = rw (h, i)
-
-  pub awaits-is : (j : Job) (x y : Event) → _≡_ {A = Plan} (record { course = Awaits j x y; point = p; key = k }) (awaitsBy j x y)
-  unfolding awaitsBy
-  awaits-is j x y = rw (h, i)
-
-pub passes-is : (p : Plan) (j : Job) (n : ℕ) (e : Event) (a : ℕ) (q : Point) → q ≡ takenIn j (p .point) n
-    → _≡_ {A = Happened} (record { event = e; point = q; key = p .key; answer = a }) (passesBy p j n e a)
-unfolding passesBy
-passes-is p j n e a q h = rw h
-
-pub ruleset small = (rights-arm, word-arm, guard-arm, job-arm, number-arm, fits-arm, matches-arm, taken-arm, chosen-few, chosen-many, step-last, step-other, settled-is, awaits-is, passes-is, needs)
+pub ruleset small = (rights-arm, word-arm, chosen-few, chosen-many, needs)

@@ -1,4 +1,2 @@
 pub mod Run
 pub mod Event
-pub mod Course
-pub mod Settle

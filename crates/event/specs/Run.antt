@@ -1,8 +1,8 @@
 -- A password run: its choice and its steps. Assumes nothing: these are definitions.
 use Prim.Native.Nat.{ℕ}
 use mathlib.Core.Bool.{Bool, true, false}
-use Rattle.values.specs.declared.rights.Granted.{Granted}
-use Rattle.values.specs.declared.rights.Granted.the-variants.{These, NoRights}
+use Rattle.rights.specs.declared.Granted.{Granted}
+use Rattle.rights.specs.declared.Granted.the-variants.{These, NoRights}
 use Rattle.event.specs.declared.run.Password.{Password}
 use Rattle.event.specs.declared.run.Password.the-variants.{Mrz, Can, Pin, Puk}
 use Rattle.event.specs.declared.run.Choice.{Choice}

@@ -3,7 +3,7 @@ ghost use mathlib.Core.Path.{_≡_};
 ghost use Rattle.event.specs.Event.{refusalWord, lossWord, chosenWord, wordOf};
 use super::run::Choice;
 use super::run::Step;
-use values::rights::Rights;
+use rights::Rights;
 use values::word::Word;
 
 // Why a command changes nothing.

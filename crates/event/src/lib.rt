@@ -1,5 +1,3 @@
-// What can happen to a token, in document 01's words: events and their status words, the ways a plan ends, and the verdict.
-pub mod course;
+// What can happen: a password run, events, and the status word of each.
 pub mod happening;
 pub mod run;
-pub mod settle;

@@ -1,8 +1,8 @@
 // A password run: the choice that opened it, and its step.
 ghost use mathlib.Core.Path.{_≡_};
 ghost use Rattle.event.specs.Run.{passwordOf, rightsNamed, isPin, isCan, isPuk, stepNumber, isLast, nextStep};
-use values::rights::Granted;
-use values::rights::Rights;
+use rights::Granted;
+use rights::Rights;
 
 pub enum Password {
     Mrz,

@@ -6,9 +6,9 @@ use mathlib.Core.List.{List, [], _∷_, _++_}
 use lib.ListN.{replicate}
 use Rattle.objects.specs.Objects.{objectsIn, objects, objectsOf, foundIn, headerOf, tagOf, tag2, lenOf, len1}
 use Rattle.objects.specs.Chain.{taken}
-use Rattle.values.specs.Names.{isName, nameOf}
-use Rattle.values.specs.Keys.{isKey, keyOf}
-use Rattle.values.specs.Rights.{isRights, granted}
+use Rattle.strings.specs.Names.{isName, nameOf}
+use Rattle.strings.specs.Keys.{isKey, keyOf}
+use Rattle.rights.specs.Rights.{isRights, granted}
 use Rattle.command.specs.Form.{formOf, afterHeader, bodyOf, shortOf, afterShort}
 use Rattle.command.specs.Kind.{kindOf}
 use Rattle.command.specs.Shape.{shapeOf, headedOf}

@@ -11,20 +11,20 @@ use Rattle.laws.proofs.Bools.{of-both}
 use Rattle.objects.specs.Objects.{part, objectsIn, foundIn}
 use Rattle.objects.specs.Chain.{taken}
 use Rattle.objects.proofs.Chain.{taken-all, answered-all}
-use Rattle.values.specs.Bytes.{allOf}
-use Rattle.values.specs.Names.{isName, nameOf, noName, nameFits}
+use Rattle.strings.specs.Bytes.{allOf, longest}
+use Rattle.strings.specs.Names.{isName, nameOf, noName, nameFits}
 use Rattle.values.specs.Points.{noPoint, pointFits}
-use Rattle.values.specs.Keys.{isKey, keyOf, noKey, keyFits, keyStands}
-use Rattle.values.specs.Rights.{isRights, rightsOf, granted, rightsFit}
-use Rattle.values.proofs.Kept.{name-good, rights-good, key-good, key-there}
-use Rattle.values.specs.declared.bytes.Class.the-variants.{Numeral}
-use Rattle.values.specs.declared.name.Name.{Name}
+use Rattle.strings.specs.Keys.{isKey, keyOf, noKey, keyFits, keyStands}
+use Rattle.rights.specs.Rights.{isRights, rightsOf, granted, rightsFit}
+use Rattle.strings.proofs.Kept.{name-good, key-good, key-there}
+use Rattle.rights.proofs.Kept.{rights-good}
+use Rattle.strings.specs.declared.bytes.Class.the-variants.{Numeral}
+use Rattle.strings.specs.declared.name.Name.{Name}
 use Rattle.values.specs.declared.point.Point.{Point}
-use Rattle.values.specs.declared.key.Key.{Key}
-use Rattle.values.specs.declared.rights.Rights.{Rights}
-use Rattle.values.specs.declared.rights.Granted.the-variants.{These, NoRights}
+use Rattle.strings.specs.declared.key.Key.{Key}
+use Rattle.rights.specs.declared.Rights.{Rights}
+use Rattle.rights.specs.declared.Granted.the-variants.{These, NoRights}
 use Rattle.event.specs.Run.{rightsNamed}
-use Rattle.values.specs.Bytes.{longest}
 use Rattle.event.specs.declared.run.Choice.{Choice}
 use Rattle.event.specs.declared.run.Choice.the-variants.{Mrz, Can, CanFor, Pin, PinFor, Puk}
 use Rattle.certificate.specs.Body.{signedOf, isSignature}

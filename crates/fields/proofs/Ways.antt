@@ -25,19 +25,19 @@ use Rattle.objects.specs.declared.Found.the-variants.{Content, Missing}
 use Rattle.objects.proofs.Sizes.{found-sizes, part-length}
 use Rattle.objects.proofs.Counts.{kept-objects}
 use Rattle.objects.proofs.Chain.{rest, none-counts, found-start, found-end, nest-counts, nest-refused, counted-plus}
-use Rattle.values.specs.Bytes.{among, allOf}
-use Rattle.values.specs.declared.bytes.Class.the-variants.{Numeral}
-use Rattle.values.specs.Names.{isName, noName, nameOf}
+use Rattle.strings.specs.Bytes.{among, allOf, longest}
+use Rattle.strings.specs.declared.bytes.Class.the-variants.{Numeral}
+use Rattle.strings.specs.Names.{isName, noName, nameOf}
 use Rattle.values.specs.Points.{noPoint}
-use Rattle.values.specs.Keys.{noKey, keyOf}
-use Rattle.values.specs.Rights.{isRights, granted, rightsOf}
+use Rattle.strings.specs.Keys.{noKey, keyOf}
+use Rattle.rights.specs.Rights.{isRights, granted, rightsOf}
 use Rattle.certificate.proofs.Contents.{rights-count}
-use Rattle.values.specs.declared.name.Name.{Name}
+use Rattle.strings.specs.declared.name.Name.{Name}
 use Rattle.values.specs.declared.point.Point.{Point}
-use Rattle.values.specs.declared.key.Key.{Key}
-use Rattle.values.specs.declared.rights.Rights.{Rights}
-use Rattle.values.specs.declared.rights.Granted.{Granted}
-use Rattle.values.specs.declared.rights.Granted.the-variants.{These, NoRights}
+use Rattle.strings.specs.declared.key.Key.{Key}
+use Rattle.rights.specs.declared.Rights.{Rights}
+use Rattle.rights.specs.declared.Granted.{Granted}
+use Rattle.rights.specs.declared.Granted.the-variants.{These, NoRights}
 use Rattle.command.specs.Shape.{shapeOf}
 use Rattle.command.specs.declared.kind.Kind.{Kind}
 use Rattle.command.specs.declared.Fault.{Fault}
@@ -47,7 +47,6 @@ use Rattle.command.proofs.Shapes.{data-starts, data-ends}
 use Rattle.certificate.specs.Body.{signedOf}
 use Rattle.certificate.specs.declared.Reading.{Reading}
 use Rattle.certificate.specs.declared.Answer.the-variants.{Read, Unread}
-use Rattle.values.specs.Bytes.{longest}
 use Rattle.event.specs.declared.happening.Refusal.{Refusal}
 use Rattle.fields.specs.Taking.{sized, fitted, lastOf, holds}
 use Rattle.fields.specs.Given.{only, bad, selecting, verifying, announcing}

@@ -3,9 +3,9 @@ use Prim.Native.Nat.{ℕ}
 use mathlib.Core.List.{List}
 use mathlib.Core.Bool.{Bool}
 use Rattle.objects.specs.Objects.{part}
-use Rattle.values.specs.Names.{noName}
+use Rattle.strings.specs.Names.{noName}
 use Rattle.values.specs.Points.{noPoint}
-use Rattle.values.specs.Keys.{noKey}
+use Rattle.strings.specs.Keys.{noKey}
 use Rattle.command.specs.Shape.{shapeOf}
 use Rattle.command.specs.declared.kind.Kind.{Kind}
 use Rattle.command.specs.declared.kind.Kind.the-variants.{ChoosePassword, General, SelectIssuer, VerifyCertificate, Announce, Challenge, ProveTerminal, ChooseChipKey, Read, ChangePin, Unblock, Activate, Deactivate}

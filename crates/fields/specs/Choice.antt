@@ -7,10 +7,10 @@ use mathlib.Core.Bool.{true, false, cond}
 use lib.ListN.{length, getD}
 use lib.Dec.{eqb}
 use Rattle.objects.specs.Chain.{taken}
-use Rattle.values.specs.Rights.{granted}
-use Rattle.values.specs.declared.rights.Rights.{Rights}
-use Rattle.values.specs.declared.rights.Granted.{Granted}
-use Rattle.values.specs.declared.rights.Granted.the-variants.{These, NoRights}
+use Rattle.rights.specs.Rights.{granted}
+use Rattle.rights.specs.declared.Rights.{Rights}
+use Rattle.rights.specs.declared.Granted.{Granted}
+use Rattle.rights.specs.declared.Granted.the-variants.{These, NoRights}
 use Rattle.event.specs.declared.run.Choice.the-variants.{Mrz, Can, CanFor, Pin, PinFor, Puk}
 use Rattle.fields.specs.Taking.{reading, lastly, any, isAll, sized}
 use Rattle.fields.specs.declared.asked.Ask.{Ask}

@@ -1,10 +1,10 @@
 -- What the data of a command give: what is asked, and what goes with it. Assumes nothing: these are definitions.
-use Rattle.values.specs.Names.{noName}
+use Rattle.strings.specs.Names.{noName}
 use Rattle.values.specs.Points.{noPoint}
-use Rattle.values.specs.Keys.{noKey}
-use Rattle.values.specs.declared.name.Name.{Name}
+use Rattle.strings.specs.Keys.{noKey}
+use Rattle.strings.specs.declared.name.Name.{Name}
 use Rattle.values.specs.declared.point.Point.{Point}
-use Rattle.values.specs.declared.key.Key.{Key}
+use Rattle.strings.specs.declared.key.Key.{Key}
 use Rattle.fields.specs.declared.asked.Ask.{Ask}
 use Rattle.fields.specs.declared.asked.Ask.the-variants.{Bad, Select, Verify, Announce}
 use Rattle.fields.specs.declared.given.Given.{Given}

@@ -5,7 +5,7 @@ use mathlib.Core.List.{List}
 use mathlib.Core.Bool.{true, cond}
 use lib.ListN.{length}
 use lib.Dec.{eqb}
-use Rattle.values.specs.Bytes.{longest}
+use Rattle.strings.specs.Bytes.{longest}
 use Rattle.event.specs.declared.run.Step.the-variants.{Nonce, Map, Agree, Confirm}
 use Rattle.fields.specs.Taking.{reading, lastly, any, holds}
 use Rattle.fields.specs.declared.asked.Content.the-variants.{Step, Chip}

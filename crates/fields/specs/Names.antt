@@ -2,7 +2,7 @@
 use Prim.Native.Nat.{ℕ}
 use mathlib.Core.List.{List}
 use mathlib.Core.Bool.{false}
-use Rattle.values.specs.Names.{isName, nameOf}
+use Rattle.strings.specs.Names.{isName, nameOf}
 use Rattle.certificate.specs.Body.{signedOf}
 use Rattle.certificate.specs.declared.Body.{Body}
 use Rattle.certificate.specs.declared.Answer.{Answer}

@@ -9,7 +9,7 @@ use Rattle.objects.specs.Objects.{part, objectsIn, foundIn}
 use Rattle.objects.specs.Chain.{answered, taken}
 use Rattle.objects.specs.declared.Found.{Found}
 use Rattle.objects.specs.declared.Found.the-variants.{Content, Missing}
-use Rattle.values.specs.Bytes.{eqbs, among}
+use Rattle.strings.specs.Bytes.{eqbs, among}
 
 -- one reading, within the depth and the allowance, of the whole data field
 unfoldable pub reading : {R : Type 0} → R → List ℕ → (ℕ → R) → R

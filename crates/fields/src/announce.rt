@@ -3,7 +3,7 @@ ghost use mathlib.Core.Path.{_≡_};
 ghost use mathlib.Core.Bool.{false};
 ghost use Rattle.objects.specs.Objects.{objectsAt};
 ghost use Rattle.objects.specs.Chain.{counted};
-ghost use Rattle.values.specs.Keys.{isKey};
+ghost use Rattle.strings.specs.Keys.{isKey};
 ghost use Rattle.fields.specs.Taking.{fitted};
 ghost use Rattle.fields.specs.Given.{bad};
 ghost use Rattle.fields.specs.Announce.{announceOf, terminalThen, auxiliaryThen, keyThen};
@@ -15,8 +15,8 @@ use super::taking::named;
 use super::taking::sized;
 use objects::Count;
 use objects::Found;
-use values::key::Key;
-use values::name::Name;
+use strings::key::Key;
+use strings::name::Name;
 
 const TERMINAL: [u8; 10] = [4, 0, 0x7F, 0, 7, 2, 2, 2, 2, 3];
 

@@ -3,8 +3,8 @@ use command::kind::Kind;
 use event::happening::Refusal;
 use event::run::Choice;
 use event::run::Step;
-use values::key::Key;
-use values::name::Name;
+use strings::key::Key;
+use strings::name::Name;
 use values::point::Point;
 
 // What a 7C holds: the data of a run step, or of the chip key.

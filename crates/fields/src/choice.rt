@@ -9,9 +9,9 @@ use super::taking::last;
 use super::taking::sized;
 use event::run::Choice;
 use objects::Found;
-use values::rights::Granted;
-use values::rights::Rights;
-use values::rights::rights_of;
+use rights::Granted;
+use rights::Rights;
+use rights::rights_of;
 
 const PACE: [u8; 10] = [4, 0, 0x7F, 0, 7, 2, 2, 4, 2, 2];
 

@@ -2,8 +2,8 @@
 ghost use mathlib.Core.Path.{_≡_};
 ghost use Rattle.fields.specs.Given.{only, selecting, verifying, announcing};
 use super::asked::Ask;
-use values::key::Key;
-use values::name::Name;
+use strings::key::Key;
+use strings::name::Name;
 use values::point::Point;
 
 pub struct Given {

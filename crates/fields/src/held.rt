@@ -7,7 +7,7 @@ use super::taking::holds;
 use super::taking::last;
 use event::run::Step;
 use objects::Found;
-use values::bytes::STRING;
+use strings::bytes::STRING;
 
 // The bytes of a token that confirms.
 const TOKEN: usize = 8;

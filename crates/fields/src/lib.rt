@@ -9,8 +9,8 @@ use command::Shape;
 use command::kind::Kind;
 use event::happening::Refusal;
 use given::Given;
-use values::key::Key;
-use values::name::Name;
+use strings::key::Key;
+use strings::name::Name;
 use values::point::Point;
 
 mod announce;

@@ -7,7 +7,7 @@ use super::taking::last;
 use super::taking::named;
 use certificate::Answer;
 use objects::Found;
-use values::name::Name;
+use strings::name::Name;
 
 // 83 with a name.
 pub(crate) fn select(s: &[u8]) -> Given

@@ -2,8 +2,8 @@
 ghost use mathlib.Core.Path.{_≡_};
 ghost use Rattle.fields.specs.Plain.{proofOf, pinOf};
 use super::asked::Ask;
-use values::bytes::Class;
-use values::bytes::all;
+use strings::bytes::Class;
+use strings::bytes::all;
 
 // The digits of a PIN.
 const DIGITS: usize = 6;

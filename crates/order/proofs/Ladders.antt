@@ -4,8 +4,8 @@ use Prim.Native.Nat.{ℕ, _-_}
 use mathlib.Core.Bool.{Bool, true, false}
 use mathlib.Core.Path.{_≡_, sym, ap, _∙_}
 use Rattle.laws.proofs.Rungs.{rungs}
-use Rattle.values.specs.declared.rights.Rights.{Rights}
-use Rattle.values.specs.declared.rights.Role.{Role}
+use Rattle.rights.specs.declared.Rights.{Rights}
+use Rattle.rights.specs.declared.Role.{Role}
 use Rattle.event.specs.declared.run.Choice.{Choice}
 use Rattle.event.specs.declared.run.Password.{Password}
 use Rattle.event.specs.declared.run.Step.{Step}

@@ -2,13 +2,13 @@
 use Prim.Native.Nat.{ℕ, _-_}
 use mathlib.Core.Bool.{Bool}
 use Rattle.laws.proofs.Pinned.{Pinned, pinned}
-use Rattle.values.specs.declared.rights.Rights.{Rights}
-use Rattle.values.specs.declared.rights.Role.{Role}
+use Rattle.rights.specs.declared.Rights.{Rights}
+use Rattle.rights.specs.declared.Role.{Role}
 use Rattle.event.specs.declared.run.Choice.{Choice}
 use Rattle.event.specs.declared.run.Step.{Step}
 use Rattle.event.specs.declared.happening.Issuer.{Issuer}
 use Rattle.event.specs.declared.happening.Event.{Event}
-use Rattle.event.specs.declared.course.Course.{Course}
+use Rattle.settle.specs.declared.course.Course.{Course}
 use Rattle.order.specs.Order.{chooseLadder, passedEvent, otherEvent, issues, takenEvent, verifyLadder, grounded, unblockLadder}
 
 pub choose-pinned : (spent inactive lone used : Bool) (c : Choice) (left : ℕ) → Pinned Event (chooseLadder spent inactive lone used c left)

@@ -2,10 +2,10 @@
 -- stand with the commands. Assumes nothing: these are definitions.
 use Prim.Native.Nat.{ℕ, _-_}
 use mathlib.Core.Bool.{Bool, cond, not, _&&_, _||_}
-use Rattle.values.specs.Rights.{isTerminal}
-use Rattle.values.specs.declared.rights.Rights.{Rights}
-use Rattle.values.specs.declared.rights.Role.{Role}
-use Rattle.values.specs.declared.rights.Role.the-variants.{Cvca, OfficialDv, OtherDv, Terminal}
+use Rattle.rights.specs.Rights.{isTerminal}
+use Rattle.rights.specs.declared.Rights.{Rights}
+use Rattle.rights.specs.declared.Role.{Role}
+use Rattle.rights.specs.declared.Role.the-variants.{Cvca, OfficialDv, OtherDv, Terminal}
 use Rattle.event.specs.declared.run.Choice.{Choice}
 use Rattle.event.specs.declared.run.Step.{Step}
 use Rattle.event.specs.Run.{passwordOf, isPin, isLast}
@@ -14,9 +14,9 @@ use Rattle.event.specs.declared.happening.Issuer.{Issuer}
 use Rattle.event.specs.declared.happening.Issuer.the-variants.{Newest, Previous, Dv}
 use Rattle.event.specs.declared.happening.Event.{Event}
 use Rattle.event.specs.declared.happening.Event.the-variants.{Refused, Chosen, StepPassed, Opened, RunClosed, TrialLost, LinkTaken, DvTaken, TerminalTaken, UnblockedByPuk, UnblockedByRight, NotPassed}
-use Rattle.event.specs.declared.course.Job.the-variants.{Certificate}
-use Rattle.event.specs.declared.course.Course.{Course}
-use Rattle.event.specs.declared.course.Course.the-variants.{Settled, Awaits}
+use Rattle.settle.specs.declared.course.Job.the-variants.{Certificate}
+use Rattle.settle.specs.declared.course.Course.{Course}
+use Rattle.settle.specs.declared.course.Course.the-variants.{Settled, Awaits}
 
 -- "PIN: counter 0 is 6983, inactive 6984, then counter 1 unless the CAN opened this session is 6985. PUK with no uses is 6983."
 abbrev pub chooseLadder : Bool → Bool → Bool → Bool → Choice → ℕ → Event

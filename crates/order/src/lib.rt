@@ -2,15 +2,15 @@
 ghost use mathlib.Core.Path.{_≡_};
 ghost use Rattle.order.specs.Order.{chooseLadder, passedEvent, otherEvent, trialOf, issues, takenEvent, verifyLadder, grounded, unblockLadder};
 ghost use Prim.Native.Nat.{_-_};
-use event::course::Course;
-use event::course::Job;
 use event::happening::Event;
 use event::happening::Issuer;
 use event::happening::Refusal;
 use event::run::Choice;
 use event::run::Step;
-use values::rights::Rights;
-use values::rights::Role;
+use rights::Rights;
+use rights::Role;
+use settle::course::Course;
+use settle::course::Job;
 
 // Choose password: what is asked of the PIN and the PUK.
 pub fn choose(

@@ -7,16 +7,16 @@ use lib.Dec.{eqb, leb}
 use lib.ListN.{length}
 use borrow.Author.Tests.{not-false}
 use Rattle.laws.proofs.Bools.{true-false, and-l, and-7, or-l, of-both}
-use Rattle.values.specs.Names.{sameName}
+use Rattle.strings.specs.Names.{sameName}
 use Rattle.values.specs.Points.{noPoint, withKey}
 use Rattle.values.specs.Days.{dayFits}
-use Rattle.values.specs.Keys.{noKey}
-use Rattle.values.specs.Rights.{roleOf, isDv, readsGroup}
-use Rattle.values.specs.declared.name.Name.{Name}
-use Rattle.values.specs.declared.key.Key.{Key}
+use Rattle.strings.specs.Keys.{noKey}
+use Rattle.rights.specs.Rights.{roleOf, isDv, readsGroup}
+use Rattle.strings.specs.declared.name.Name.{Name}
+use Rattle.strings.specs.declared.key.Key.{Key}
 use Rattle.values.specs.declared.point.Point.{Point}
-use Rattle.values.specs.declared.rights.Role.{Role}
-use Rattle.values.specs.declared.rights.Role.the-variants.{Cvca, OfficialDv, OtherDv, Terminal}
+use Rattle.rights.specs.declared.Role.{Role}
+use Rattle.rights.specs.declared.Role.the-variants.{Cvca, OfficialDv, OtherDv, Terminal}
 use Rattle.command.specs.declared.kind.Kind.{Kind}
 use Rattle.event.specs.declared.run.Choice.{Choice}
 use Rattle.event.specs.declared.run.Step.{Step}
@@ -28,19 +28,19 @@ use Rattle.event.specs.declared.happening.Issuer.{Issuer}
 use Rattle.event.specs.declared.happening.Issuer.the-variants.{Newest, Previous, Dv}
 use Rattle.event.specs.declared.happening.Event.{Event}
 use Rattle.event.specs.declared.happening.Event.the-variants.{Refused, Lost, Chosen, StepPassed, Opened as IsOpened, RunClosed, TrialLost, Selected as IsSelected, LinkTaken, DvTaken, TerminalTaken, Announced as IsAnnounced, Challenged as IsChallenged, Proven as IsProven, ProofLost, ChipKeyChosen as IsChosen, Authenticated as IsAuthenticated, ChipLost, ReadAllowed, PinChanged, UnblockedByPuk, UnblockedByRight, Activated, Deactivated, NotPassed}
-use Rattle.event.specs.declared.course.Note.{Note}
-use Rattle.event.specs.declared.course.Guard.{Guard}
-use Rattle.event.specs.declared.course.Guard.the-variants.{Passes, Drops}
-use Rattle.event.specs.declared.course.Job.{Job}
-use Rattle.event.specs.declared.course.Job.the-variants.{Step as StepJob, Challenge as ChallengeJob, Proof, PinChange}
-use Rattle.event.specs.declared.course.Course.{Course}
-use Rattle.event.specs.declared.course.Course.the-variants.{Settled, Awaits}
-use Rattle.event.specs.declared.course.Plan.{Plan}
-use Rattle.event.specs.declared.settle.Answered.{Answered}
-use Rattle.event.specs.declared.settle.Happened.{Happened}
-use Rattle.event.specs.Course.{settledBy, awaitsBy, guardOf}
-use Rattle.event.specs.Settle.{takenIn, endsBy, passesBy}
-use Rattle.event.proofs.Settles.{settle-all}
+use Rattle.settle.specs.declared.course.Note.{Note}
+use Rattle.settle.specs.declared.course.Guard.{Guard}
+use Rattle.settle.specs.declared.course.Guard.the-variants.{Passes, Drops}
+use Rattle.settle.specs.declared.course.Job.{Job}
+use Rattle.settle.specs.declared.course.Job.the-variants.{Step as StepJob, Challenge as ChallengeJob, Proof, PinChange}
+use Rattle.settle.specs.declared.course.Course.{Course}
+use Rattle.settle.specs.declared.course.Course.the-variants.{Settled, Awaits}
+use Rattle.settle.specs.declared.course.Plan.{Plan}
+use Rattle.settle.specs.declared.verdict.Answered.{Answered}
+use Rattle.settle.specs.declared.verdict.Happened.{Happened}
+use Rattle.settle.specs.Course.{settledBy, awaitsBy, guardOf}
+use Rattle.settle.specs.Settle.{takenIn, endsBy, passesBy}
+use Rattle.settle.proofs.Settles.{settle-all}
 use Rattle.order.specs.Order.{chooseLadder, passedEvent, otherEvent, issues, takenEvent, verifyLadder, unblockLadder}
 use Rattle.trust.specs.Trust.{pointsFit, knows, found, holderOf}
 use Rattle.trust.specs.declared.Points.{Points}
@@ -55,12 +55,12 @@ use Rattle.fields.specs.declared.asked.Request.the-variants.{Refused as Faulty,
 use Rattle.fields.specs.declared.asked.Asked.{Asked}
 use Rattle.fields.specs.Asked.{askedOf}
 use Rattle.fields.proofs.Facts.{Of, of-bad, of-choose, of-general, of-select, of-verify, of-announce, of-challenge, of-prove, of-chip-key, of-read, of-change-pin, of-unblock, of-activate, of-deactivate, kind-of}
-use Rattle.session.specs.declared.Selected.{Selected}
-use Rattle.session.specs.declared.Selected.the-variants.{NoIssuer, Of as Chose}
-use Rattle.session.specs.declared.Stage.{Stage}
-use Rattle.session.specs.declared.Stage.the-variants.{Idle, Run, Announced, Challenged, Proven, ChipKeyChosen, Authenticated}
-use Rattle.session.specs.Session.{isOpen, openedByPin, openedByCan, openedByPuk, hasRights, hasDv, hasTerminal, isSelected}
-use Rattle.session.specs.Moment.{rank, unproven, momentOf}
+use Rattle.standing.specs.declared.Selected.{Selected}
+use Rattle.standing.specs.declared.Selected.the-variants.{NoIssuer, Of as Chose}
+use Rattle.standing.specs.declared.Stage.{Stage}
+use Rattle.standing.specs.declared.Stage.the-variants.{Idle, Run, Announced, Challenged, Proven, ChipKeyChosen, Authenticated}
+use Rattle.standing.specs.Standing.{isOpen, openedByPin, openedByCan, openedByPuk, hasRights, hasDv, hasTerminal, isSelected, rank, unproven}
+use Rattle.session.specs.Moment.{momentOf}
 use Rattle.session.specs.Authorization.{authorization}
 use Rattle.session.specs.Fits.{contextFits}
 use Rattle.token.specs.declared.state.Token.{Token}

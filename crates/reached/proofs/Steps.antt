@@ -6,10 +6,10 @@ use mathlib.Core.List.{List, []}
 use lib.Dec.{eqb, ltb}
 use lib.ListN.{length, take}
 use Rattle.laws.proofs.Bools.{true-false, of-both}
-use Rattle.values.specs.Names.{sameName}
-use Rattle.values.specs.Rights.{roleOf, readsGroup}
-use Rattle.values.specs.declared.key.Key.{Key}
-use Rattle.values.specs.declared.name.Name.{Name}
+use Rattle.strings.specs.Names.{sameName}
+use Rattle.rights.specs.Rights.{roleOf, readsGroup}
+use Rattle.strings.specs.declared.key.Key.{Key}
+use Rattle.strings.specs.declared.name.Name.{Name}
 use Rattle.values.specs.declared.point.Point.{Point}
 use Rattle.event.specs.declared.run.Choice.{Choice}
 use Rattle.event.specs.declared.run.Step.{Step}
@@ -18,21 +18,21 @@ use Rattle.event.specs.Run.{passwordOf, isPin, isPuk, isLast}
 use Rattle.event.specs.declared.happening.Refusal.{Refusal}
 use Rattle.event.specs.declared.happening.Event.{Event}
 use Rattle.event.specs.declared.happening.Event.the-variants.{Refused, Lost, Chosen, StepPassed, Opened, RunClosed, TrialLost, Selected, LinkTaken, DvTaken, TerminalTaken, Announced, Challenged, Proven, ProofLost, ChipKeyChosen, Authenticated, ChipLost, ReadAllowed, PinChanged, UnblockedByPuk, UnblockedByRight, Activated, Deactivated, NotPassed}
-use Rattle.event.specs.declared.course.Note.{Note}
-use Rattle.event.specs.declared.course.Guard.{Guard}
-use Rattle.event.specs.declared.course.Guard.the-variants.{Passes, Drops}
-use Rattle.event.specs.declared.course.Job.{Job}
-use Rattle.event.specs.declared.course.Job.the-variants.{Nothing}
-use Rattle.event.specs.declared.course.Course.{Course}
-use Rattle.event.specs.declared.course.Course.the-variants.{Settled, Awaits}
-use Rattle.event.specs.declared.course.Plan.{Plan}
-use Rattle.event.specs.declared.settle.Verdict.{Verdict}
-use Rattle.event.specs.declared.settle.Verdict.the-variants.{Passed, Failed, Missing}
-use Rattle.event.specs.declared.settle.Answered.{Answered}
-use Rattle.event.specs.declared.settle.Happened.{Happened}
-use Rattle.event.specs.Course.{settledBy, awaitsBy, guardOf, courseJob}
-use Rattle.event.specs.Settle.{jobNumber, jobFits, matches, endsBy, judgedOf, awaitedOf, courseOf, settleOf}
-use Rattle.event.proofs.Settles.{no-influence, settle-all}
+use Rattle.settle.specs.declared.course.Note.{Note}
+use Rattle.settle.specs.declared.course.Guard.{Guard}
+use Rattle.settle.specs.declared.course.Guard.the-variants.{Passes, Drops}
+use Rattle.settle.specs.declared.course.Job.{Job}
+use Rattle.settle.specs.declared.course.Job.the-variants.{Nothing}
+use Rattle.settle.specs.declared.course.Course.{Course}
+use Rattle.settle.specs.declared.course.Course.the-variants.{Settled, Awaits}
+use Rattle.settle.specs.declared.course.Plan.{Plan}
+use Rattle.settle.specs.declared.verdict.Verdict.{Verdict}
+use Rattle.settle.specs.declared.verdict.Verdict.the-variants.{Passed, Failed, Missing}
+use Rattle.settle.specs.declared.verdict.Answered.{Answered}
+use Rattle.settle.specs.declared.verdict.Happened.{Happened}
+use Rattle.settle.specs.Course.{settledBy, awaitsBy, guardOf, courseJob}
+use Rattle.settle.specs.Settle.{jobNumber, jobFits, matches, endsBy, judgedOf, awaitedOf, courseOf, settleOf}
+use Rattle.settle.proofs.Settles.{no-influence, settle-all}
 use Rattle.order.specs.Order.{chooseLadder, otherEvent, issues, takenEvent, verifyLadder, grounded, unblockLadder}
 use Rattle.trust.specs.Trust.{found, holderOf}
 use Rattle.trust.specs.declared.Anchor.{Anchor}
@@ -45,11 +45,11 @@ use Rattle.fields.specs.declared.asked.Request.{Request}
 use Rattle.fields.specs.declared.asked.Request.the-variants.{Refused as Faulty, Asks}
 use Rattle.fields.specs.declared.asked.Asked.{Asked}
 use Rattle.fields.specs.Asked.{askedOf}
-use Rattle.session.specs.declared.Selected.{Selected as Selection}
-use Rattle.session.specs.declared.Selected.the-variants.{NoIssuer, Of}
-use Rattle.session.specs.declared.Stage.{Stage}
-use Rattle.session.specs.declared.Stage.the-variants.{Idle, Run, Announced as AtAnnounced, Challenged as AtChallenged, Proven as AtProven, ChipKeyChosen as AtChosen, Authenticated as AtAuthenticated}
-use Rattle.session.specs.Session.{isOpen, openedByPin, openedByCan, openedByPuk, hasDv}
+use Rattle.standing.specs.declared.Selected.{Selected as Selection}
+use Rattle.standing.specs.declared.Selected.the-variants.{NoIssuer, Of}
+use Rattle.standing.specs.declared.Stage.{Stage}
+use Rattle.standing.specs.declared.Stage.the-variants.{Idle, Run, Announced as AtAnnounced, Challenged as AtChallenged, Proven as AtProven, ChipKeyChosen as AtChosen, Authenticated as AtAuthenticated}
+use Rattle.standing.specs.Standing.{isOpen, openedByPin, openedByCan, openedByPuk, hasDv}
 use Rattle.session.specs.Moment.{momentOf}
 use Rattle.session.specs.Authorization.{authorization}
 use Rattle.reply.specs.Reply.{room}

@@ -7,19 +7,19 @@ use native.Mathlib.Omega.{arith}
 use borrow.Author.Tests.{leb-true, le-leb}
 use lib.Dec.{eqb, leb, ltb}
 use Rattle.laws.proofs.Bools.{true-false, and-l, and-r, and-5, or-l, or-then, both, of-both}
-use Rattle.values.specs.Names.{sameName, nameFits}
+use Rattle.strings.specs.Names.{sameName, nameFits}
 use Rattle.values.specs.Days.{dayFits, before, later}
-use Rattle.values.specs.Rights.{rightsFit, roleOf, isCvca, isDv, isOfficial}
+use Rattle.rights.specs.Rights.{rightsFit, roleOf, isCvca, isDv, isOfficial}
 use Rattle.values.specs.Points.{noPoint, pointFits, withKey}
-use Rattle.values.specs.Keys.{noKey, keyFits, keyStands}
-use Rattle.values.proofs.Kept.{same-turned}
+use Rattle.strings.specs.Keys.{noKey, keyFits, keyStands}
+use Rattle.strings.proofs.Kept.{same-turned}
 use Rattle.values.specs.declared.day.Day.{Day}
-use Rattle.values.specs.declared.key.Key.{Key}
+use Rattle.strings.specs.declared.key.Key.{Key}
 use Rattle.values.specs.declared.point.Point.{Point}
-use Rattle.values.specs.declared.rights.Rights.{Rights}
-use Rattle.values.specs.declared.rights.Role.the-variants.{Cvca, Terminal}
-use Rattle.values.specs.declared.rights.Granted.{Granted}
-use Rattle.values.specs.declared.rights.Granted.the-variants.{These, NoRights}
+use Rattle.rights.specs.declared.Rights.{Rights}
+use Rattle.rights.specs.declared.Role.the-variants.{Cvca, Terminal}
+use Rattle.rights.specs.declared.Granted.{Granted}
+use Rattle.rights.specs.declared.Granted.the-variants.{These, NoRights}
 use Rattle.event.specs.declared.run.Choice.{Choice}
 use Rattle.event.specs.declared.run.Choice.the-variants.{Mrz, Can, CanFor, Pin, PinFor, Puk}
 use Rattle.event.specs.declared.run.Step.{Step}
@@ -27,8 +27,8 @@ use Rattle.event.specs.declared.run.Step.the-variants.{Nonce}
 use Rattle.event.specs.Run.{passwordOf, rightsNamed, isPin, isCan, nextStep}
 use Rattle.event.specs.declared.happening.Issuer.{Issuer}
 use Rattle.event.specs.declared.happening.Event.{Event}
-use Rattle.event.specs.declared.course.Note.{Note}
-use Rattle.event.specs.declared.settle.Answered.{Answered}
+use Rattle.settle.specs.declared.course.Note.{Note}
+use Rattle.settle.specs.declared.verdict.Answered.{Answered}
 use Rattle.trust.specs.Trust.{anchorFits, pointsFit, knows, linked}
 use Rattle.trust.specs.declared.Points.{Points}
 use Rattle.fields.specs.declared.asked.Ask.{Ask}
@@ -37,18 +37,18 @@ use Rattle.fields.specs.declared.asked.Asked.{Asked}
 use Rattle.command.specs.declared.kind.Kind.{Kind}
 use Rattle.fields.specs.Asked.{askedOf}
 use Rattle.fields.proofs.Facts.{Within as Named, within-limits}
-use Rattle.session.specs.declared.Opened.{Opened}
-use Rattle.session.specs.declared.Opened.the-variants.{Nobody, By}
-use Rattle.session.specs.declared.Reach.{Reach}
-use Rattle.session.specs.declared.Reach.the-variants.{Empty, ToDv, ToTerminal}
-use Rattle.session.specs.declared.Chain.{Chain}
-use Rattle.session.specs.declared.Selected.the-variants.{Of as Chose}
-use Rattle.session.specs.declared.Stage.{Stage}
-use Rattle.session.specs.declared.Stage.the-variants.{Idle, Run, Announced, Challenged, Proven, ChipKeyChosen, Authenticated}
+use Rattle.standing.specs.declared.Opened.{Opened}
+use Rattle.standing.specs.declared.Opened.the-variants.{Nobody, By}
+use Rattle.standing.specs.declared.Reach.{Reach}
+use Rattle.standing.specs.declared.Reach.the-variants.{Empty, ToDv, ToTerminal}
+use Rattle.standing.specs.declared.Chain.{Chain}
+use Rattle.standing.specs.declared.Selected.the-variants.{Of as Chose}
+use Rattle.standing.specs.declared.Stage.{Stage}
+use Rattle.standing.specs.declared.Stage.the-variants.{Idle, Run, Announced, Challenged, Proven, ChipKeyChosen, Authenticated}
 use Rattle.session.specs.declared.Context.{Context}
 use Rattle.session.specs.declared.Session.{Session}
-use Rattle.session.specs.Session.{openedByPin, openedByCan, hasRights, reachesDv, reachesTerminal, hasDv, hasTerminal, noChain, bareSession, atStage, announcedWith, chainedTo}
-use Rattle.session.specs.Moment.{rank, told, unproven}
+use Rattle.standing.specs.Standing.{openedByPin, openedByCan, hasRights, reachesDv, reachesTerminal, hasDv, hasTerminal, noChain, rank, told, unproven}
+use Rattle.session.specs.Session.{bareSession, atStage, announcedWith, chainedTo}
 use Rattle.session.specs.Fits.{grantedFits, rootFits, dvFits, terminalFits, reachFits, chainFits, runFits, stageFits, groundFits, contextFits}
 use Rattle.token.specs.declared.state.Token.{Token}
 use Rattle.token.specs.declared.state.Made.the-variants.{Accepted, Unfit}

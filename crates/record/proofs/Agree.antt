@@ -8,20 +8,20 @@ use mathlib.Core.List.{List, [], _∷_}
 use borrow.Author.Tests.{not-true}
 use lib.Dec.{eqb, leb}
 use Rattle.laws.proofs.Bools.{true-false, and-r, or-then}
-use Rattle.values.specs.Names.{sameName}
-use Rattle.values.specs.Rights.{roleOf, isDv}
+use Rattle.strings.specs.Names.{sameName}
+use Rattle.rights.specs.Rights.{roleOf, isDv}
 use Rattle.values.specs.Points.{noPoint, withKey}
-use Rattle.values.specs.Keys.{noKey}
-use Rattle.values.proofs.Kept.{same-for}
-use Rattle.values.specs.declared.name.Name.{Name}
-use Rattle.values.specs.declared.key.Key.{Key}
+use Rattle.strings.specs.Keys.{noKey}
+use Rattle.strings.proofs.Kept.{same-for}
+use Rattle.strings.specs.declared.name.Name.{Name}
+use Rattle.strings.specs.declared.key.Key.{Key}
 use Rattle.values.specs.declared.day.Day.{Day}
 use Rattle.values.specs.declared.point.Point.{Point}
-use Rattle.values.specs.declared.rights.Rights.{Rights}
-use Rattle.values.specs.declared.rights.Role.{Role}
-use Rattle.values.specs.declared.rights.Role.the-variants.{Cvca, OfficialDv, OtherDv, Terminal}
-use Rattle.values.specs.declared.rights.Granted.{Granted}
-use Rattle.values.specs.declared.rights.Granted.the-variants.{NoRights}
+use Rattle.rights.specs.declared.Rights.{Rights}
+use Rattle.rights.specs.declared.Role.{Role}
+use Rattle.rights.specs.declared.Role.the-variants.{Cvca, OfficialDv, OtherDv, Terminal}
+use Rattle.rights.specs.declared.Granted.{Granted}
+use Rattle.rights.specs.declared.Granted.the-variants.{NoRights}
 use Rattle.event.specs.declared.run.Password.{Password}
 use Rattle.event.specs.declared.run.Choice.{Choice}
 use Rattle.event.specs.declared.run.Step.{Step}
@@ -31,16 +31,16 @@ use Rattle.event.specs.declared.happening.Event.{Event}
 use Rattle.trust.specs.Trust.{anchorFits, pointsFit, linked}
 use Rattle.trust.specs.declared.Points.{Points}
 use Rattle.fields.specs.declared.asked.Asked.{Asked}
-use Rattle.session.specs.declared.Opened.{Opened}
-use Rattle.session.specs.declared.Opened.the-variants.{Nobody, By}
-use Rattle.session.specs.declared.Reach.{Reach}
-use Rattle.session.specs.declared.Reach.the-variants.{Empty, ToDv, ToTerminal}
-use Rattle.session.specs.declared.Chain.{Chain}
-use Rattle.session.specs.declared.Stage.{Stage}
-use Rattle.session.specs.declared.Stage.the-variants.{Idle, Run, Announced as AtAnnounced, Challenged as AtChallenged, Proven as AtProven, ChipKeyChosen as AtChosen, Authenticated as AtAuthenticated}
+use Rattle.standing.specs.declared.Opened.{Opened}
+use Rattle.standing.specs.declared.Opened.the-variants.{Nobody, By}
+use Rattle.standing.specs.declared.Reach.{Reach}
+use Rattle.standing.specs.declared.Reach.the-variants.{Empty, ToDv, ToTerminal}
+use Rattle.standing.specs.declared.Chain.{Chain}
+use Rattle.standing.specs.declared.Stage.{Stage}
+use Rattle.standing.specs.declared.Stage.the-variants.{Idle, Run, Announced as AtAnnounced, Challenged as AtChallenged, Proven as AtProven, ChipKeyChosen as AtChosen, Authenticated as AtAuthenticated}
 use Rattle.session.specs.declared.Context.{Context}
-use Rattle.session.specs.Session.{reachesDv, hasRights, hasDv, hasTerminal, noChain, bareSession}
-use Rattle.session.specs.Moment.{rank, told, unproven, isAuthenticated}
+use Rattle.standing.specs.Standing.{reachesDv, hasRights, hasDv, hasTerminal, noChain, rank, told, unproven, isAuthenticated}
+use Rattle.session.specs.Session.{bareSession}
 use Rattle.token.specs.declared.state.Token.{Token}
 use Rattle.token.specs.State.{resetOf, startOf, contextOf, chainOf}
 use Rattle.token.specs.After.{choiceTaken, staged, stepPassed, opened, runClosed, trialLost, issuerSelected, linkTaken, dvTaken, extended, terminalTaken, announced, unblocked, unblockedByPuk, activated, afterOf}

@@ -8,12 +8,12 @@ use borrow.Author.Tests.{le-ltb, le-leb}
 use lib.Dec.{ltb}
 use lib.ListN.{length}
 use Rattle.laws.proofs.Bools.{true-false, and-l, and-r, or-then}
-use Rattle.values.specs.Keys.{keyStands}
-use Rattle.values.specs.Rights.{hasRight, readsGroup}
+use Rattle.strings.specs.Keys.{keyStands}
+use Rattle.rights.specs.Rights.{hasRight, readsGroup}
 use Rattle.values.specs.declared.point.Point.{Point}
-use Rattle.values.specs.declared.rights.Rights.{Rights}
-use Rattle.values.specs.declared.rights.Granted.{Granted}
-use Rattle.values.specs.declared.rights.Granted.the-variants.{These, NoRights}
+use Rattle.rights.specs.declared.Rights.{Rights}
+use Rattle.rights.specs.declared.Granted.{Granted}
+use Rattle.rights.specs.declared.Granted.the-variants.{These, NoRights}
 use Rattle.values.specs.declared.word.Word.{Word}
 use Rattle.values.specs.declared.word.Word.the-variants.{Outside as W6F00}
 use Rattle.command.specs.declared.kind.Kind.the-variants.{Read as KindRead}
@@ -28,13 +28,13 @@ use Rattle.event.specs.declared.happening.Event.{Event}
 use Rattle.event.specs.declared.happening.Event.the-variants.{ReadAllowed, Refused, Lost}
 use Rattle.event.specs.declared.happening.Refusal.the-variants.{Moment}
 use Rattle.event.specs.declared.happening.Loss.the-variants.{Broken}
-use Rattle.event.specs.declared.course.Guard.the-variants.{Passes, Drops}
+use Rattle.settle.specs.declared.course.Guard.the-variants.{Passes, Drops}
 use Rattle.event.specs.Event.{wordOf}
-use Rattle.event.specs.declared.course.Note.the-variants.{Protected}
-use Rattle.event.specs.declared.settle.Answered.{Answered}
-use Rattle.event.specs.declared.settle.Happened.{Happened}
-use Rattle.event.specs.Course.{settledBy}
-use Rattle.event.specs.Settle.{endsBy, courseOf, settleOf}
+use Rattle.settle.specs.declared.course.Note.the-variants.{Protected}
+use Rattle.settle.specs.declared.verdict.Answered.{Answered}
+use Rattle.settle.specs.declared.verdict.Happened.{Happened}
+use Rattle.settle.specs.Course.{settledBy}
+use Rattle.settle.specs.Settle.{endsBy, courseOf, settleOf}
 use Rattle.order.specs.Order.{grounded}
 use Rattle.fields.specs.Given.{only}
 use Rattle.fields.specs.Asked.{askedOf, askedBy, asking, dataOf}
@@ -42,15 +42,15 @@ use Rattle.fields.specs.declared.asked.Ask.the-variants.{Read as AskRead}
 use Rattle.fields.specs.declared.asked.Request.{Request}
 use Rattle.fields.specs.declared.asked.Request.the-variants.{Asks}
 use Rattle.reply.specs.Reply.{room}
-use Rattle.session.specs.declared.Opened.{Opened}
-use Rattle.session.specs.declared.Opened.the-variants.{Nobody, By}
-use Rattle.session.specs.declared.Reach.{Reach}
-use Rattle.session.specs.declared.Reach.the-variants.{Empty, ToDv, ToTerminal}
-use Rattle.session.specs.declared.Stage.{Stage}
-use Rattle.session.specs.declared.Stage.the-variants.{Idle, Run, Announced as AtAnnounced, Challenged as AtChallenged, Proven as AtProven, ChipKeyChosen as AtChosen, Authenticated as AtAuthenticated}
+use Rattle.standing.specs.declared.Opened.{Opened}
+use Rattle.standing.specs.declared.Opened.the-variants.{Nobody, By}
+use Rattle.standing.specs.declared.Reach.{Reach}
+use Rattle.standing.specs.declared.Reach.the-variants.{Empty, ToDv, ToTerminal}
+use Rattle.standing.specs.declared.Stage.{Stage}
+use Rattle.standing.specs.declared.Stage.the-variants.{Idle, Run, Announced as AtAnnounced, Challenged as AtChallenged, Proven as AtProven, ChipKeyChosen as AtChosen, Authenticated as AtAuthenticated}
 use Rattle.session.specs.declared.Context.{Context}
-use Rattle.session.specs.Session.{isOpen, openedByPin, openedByCan, hasRights, hasTerminal, reachesTerminal}
-use Rattle.session.specs.Moment.{noRun, told, isAuthenticated, momentOf}
+use Rattle.standing.specs.Standing.{isOpen, openedByPin, openedByCan, hasRights, hasTerminal, reachesTerminal, noRun, told, isAuthenticated}
+use Rattle.session.specs.Moment.{momentOf}
 use Rattle.session.specs.Authorization.{rootOf, confirmedOf, authorization}
 use Rattle.session.proofs.Authorizes.{shared-right, effective-right}
 use Rattle.token.specs.State.{contextOf}

@@ -3,9 +3,9 @@ use Rattle.certificate.specs.Body.{unread, isKey, isSignature, extThen, lastThe
 use Rattle.command.specs.Form.{afterShort, afterLong, shortOf, longOf, extendedOf, bodyOf as bodyOf·Form·command, afterHeader, formOf}
 use Rattle.command.specs.Kind.{kindOf}
 use Rattle.command.specs.Shape.{headedOf, shapeOf}
-use Rattle.event.specs.Course.{settledBy, awaitsBy}
+use Rattle.settle.specs.Course.{settledBy, awaitsBy}
 use Rattle.event.specs.Event.{wordOf}
-use Rattle.event.specs.Settle.{endsBy, passesBy, judgedOf, awaitedOf, courseOf}
+use Rattle.settle.specs.Settle.{endsBy, passesBy, judgedOf, awaitedOf, courseOf}
 use Rattle.fields.specs.Announce.{keyThen as keyThen·Announce·fields, auxiliaryThen, terminalThen, protocolThen, announceOf}
 use Rattle.fields.specs.Asked.{dataOf, refusing, asking, askedOf}
 use Rattle.fields.specs.Chip.{referenceIn, chipOf}
@@ -25,7 +25,7 @@ use Rattle.reply.specs.Reply.{dataOf as dataOf·Reply·reply, replyOf}
 use Rattle.session.specs.Authorization.{sharedBy, authorization}
 use Rattle.session.specs.Fits.{rootFits, dvFits, terminalFits, chainFits, groundFits, contextFits}
 use Rattle.session.specs.Moment.{momentOf}
-use Rattle.session.specs.Session.{noChain}
+use Rattle.standing.specs.Standing.{noChain}
 use Rattle.token.specs.After.{choiceTaken, staged, stepPassed, opened, runClosed, trialLost, issuerSelected, linkTaken, dvTaken, terminalTaken, announced, unblocked, unblockedByPuk, activated, afterOf}
 use Rattle.checks.specs.Certify.{selectPlan, repeats, late, underCourse, underPlan, verifyPlan}
 use Rattle.checks.specs.Commands.{choosePlan, runPlan, chipPlan, generalPlan, announcePlan, readPlan, changePlan, unblockPlan, activePlan}
@@ -35,12 +35,12 @@ use Rattle.token.specs.State.{resetOf, startOf, noToken, madeOf}
 use Rattle.answer.specs.Answer.{layoutOf, replyTo}
 use Rattle.token.specs.Step.{stepOf}
 use Rattle.trust.specs.Trust.{anchorFits, onePoint, twoPoints, pointsFit, knows, found, linked}
-use Rattle.values.specs.Bytes.{copiedInto}
+use Rattle.strings.specs.Bytes.{copiedInto}
 use Rattle.values.specs.Days.{isDate, dayFits, isDay, dated, before, later}
-use Rattle.values.specs.Keys.{isKey as isKey·Keys·values, keyOf, noKey, keyIs, keyFits, keyStands}
-use Rattle.values.specs.Names.{isName, nameOf, noName, nameFits, sameName}
+use Rattle.strings.specs.Keys.{isKey as isKey·Keys·values, keyOf, noKey, keyIs, keyFits, keyStands}
+use Rattle.strings.specs.Names.{isName, nameOf, noName, nameFits, sameName}
 use Rattle.values.specs.Points.{noPoint, pointFits, expired, withKey}
-use Rattle.values.specs.Rights.{rightsFit, roleOf, isRights, granted, andOf, common, groupMask, readsGroup}
+use Rattle.rights.specs.Rights.{rightsFit, roleOf, isRights, granted, andOf, common, groupMask, readsGroup}
 use Rattle.values.specs.Words.{number}
 use mathlib.Core.Path.{refl}
 use Rattle.record.specs.Worked.{AllWorked}

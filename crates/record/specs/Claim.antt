@@ -7,7 +7,7 @@ use Rattle.values.specs.declared.day.Day.{Day}
 use Rattle.values.specs.declared.point.Point.{Point}
 use Rattle.values.specs.declared.word.Word.{Word}
 use Rattle.values.specs.declared.word.Word.the-variants.{Done}
-use Rattle.event.specs.declared.course.Note.the-variants.{Protected}
+use Rattle.settle.specs.declared.course.Note.the-variants.{Protected}
 use Rattle.reply.specs.Reply.{room}
 use Rattle.trust.specs.declared.Points.{Points}
 use Rattle.token.specs.declared.state.Token.{Token}

@@ -6,8 +6,8 @@ use mathlib.Core.List.{List, [], _∷_}
 use lib.Dec.{ltb}
 use Rattle.values.specs.declared.word.Word.{Word}
 use Rattle.values.specs.declared.word.Word.the-variants.{Outside}
-use Rattle.event.specs.declared.course.Note.{Note}
-use Rattle.event.specs.declared.settle.Answered.{Answered}
+use Rattle.settle.specs.declared.course.Note.{Note}
+use Rattle.settle.specs.declared.verdict.Answered.{Answered}
 use Rattle.event.specs.Event.{wordOf}
 use Rattle.reply.specs.Reply.{room}
 use Rattle.token.specs.declared.state.Token.{Token}

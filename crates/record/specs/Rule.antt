@@ -5,15 +5,15 @@ use mathlib.Core.Bool.{Bool, true, false, cond, not, _&&_, _||_}
 use mathlib.Core.Option.{Option, none, some}
 use mathlib.Core.List.{List, [], _∷_}
 use lib.Dec.{eqb, leb}
-use Rattle.values.specs.Names.{sameName}
-use Rattle.values.specs.Rights.{roleOf, hasRight}
-use Rattle.values.specs.declared.name.Name.{Name}
+use Rattle.strings.specs.Names.{sameName}
+use Rattle.rights.specs.Rights.{roleOf, hasRight}
+use Rattle.strings.specs.declared.name.Name.{Name}
 use Rattle.values.specs.declared.point.Point.{Point}
-use Rattle.values.specs.declared.rights.Rights.{Rights}
-use Rattle.values.specs.declared.rights.Granted.{Granted}
-use Rattle.values.specs.declared.rights.Granted.the-variants.{These, NoRights}
-use Rattle.values.specs.declared.rights.Role.{Role}
-use Rattle.values.specs.declared.rights.Role.the-variants.{Cvca, OfficialDv, OtherDv, Terminal}
+use Rattle.rights.specs.declared.Rights.{Rights}
+use Rattle.rights.specs.declared.Granted.{Granted}
+use Rattle.rights.specs.declared.Granted.the-variants.{These, NoRights}
+use Rattle.rights.specs.declared.Role.{Role}
+use Rattle.rights.specs.declared.Role.the-variants.{Cvca, OfficialDv, OtherDv, Terminal}
 use Rattle.values.specs.declared.word.Word.{Word}
 use Rattle.values.specs.declared.word.Word.the-variants.{Done, Tries, NotPassed, Length, Lacking, Blocked, Expired, Moment, Unprotected, Broken, Data, Parameters, NotFound, Instruction, Class, Outside}
 use Rattle.event.specs.declared.run.Password.{Password}

@@ -3,17 +3,17 @@
 use mathlib.Core.Bool.{Bool, true, false}
 use mathlib.Core.Path.{_≡_}
 use mathlib.Core.List.{List, [], _∷_, _++_}
-use Rattle.values.specs.Names.{nameOf}
+use Rattle.strings.specs.Names.{nameOf}
 use Rattle.values.specs.declared.day.Day.{Day}
 use Rattle.values.specs.declared.point.Point.{Point}
 use Rattle.values.specs.declared.word.Word.{Word}
 use Rattle.values.specs.declared.word.Word.the-variants.{Done, Lacking, Moment, Broken}
 use Rattle.event.specs.declared.run.Step.the-variants.{Nonce, Map, Agree, Confirm}
-use Rattle.event.specs.declared.course.Job.{Job}
-use Rattle.event.specs.declared.course.Job.the-variants.{Nothing, Step as StepJob, Certificate, Challenge, Proof, ChipKey}
-use Rattle.event.specs.declared.course.Note.the-variants.{Plain, Protected}
-use Rattle.event.specs.declared.settle.Verdict.the-variants.{Passed, Failed, Missing}
-use Rattle.event.specs.declared.settle.Answered.{Answered}
+use Rattle.settle.specs.declared.course.Job.{Job}
+use Rattle.settle.specs.declared.course.Job.the-variants.{Nothing, Step as StepJob, Certificate, Challenge, Proof, ChipKey}
+use Rattle.settle.specs.declared.course.Note.the-variants.{Plain, Protected}
+use Rattle.settle.specs.declared.verdict.Verdict.the-variants.{Passed, Failed, Missing}
+use Rattle.settle.specs.declared.verdict.Answered.{Answered}
 use Rattle.reply.specs.Reply.{room}
 use Rattle.trust.specs.Trust.{onePoint}
 use Rattle.record.specs.Entries.{Exchange, Entry, Reset, Sent, prescribed, reached}

@@ -4,9 +4,9 @@ use mathlib.Core.Path.{_≡_, refl}
 use mathlib.Core.Bool.{true, false}
 use mathlib.Core.List.{List, [], _∷_}
 use lib.ListN.{take, replicate}
-use Rattle.values.specs.Bytes.{copiedInto}
-use Rattle.values.specs.Names.{nameOf, noName}
-use Rattle.values.specs.declared.name.Name.{Name}
+use Rattle.strings.specs.Bytes.{copiedInto}
+use Rattle.strings.specs.Names.{nameOf, noName}
+use Rattle.strings.specs.declared.name.Name.{Name}
 use Rattle.reply.specs.declared.Layout.the-variants.{Silent, Nest, Confirmed, Pair}
 use Rattle.reply.specs.Bytes.{lengthBytes, object}
 use Rattle.reply.specs.Reply.{room, dataOf, replyOf}

@@ -5,7 +5,7 @@ use mathlib.Core.Path.{_≡_}
 use mathlib.Core.List.{List}
 use lib.ListN.{length}
 use Rattle.laws.proofs.Pinned.{pinned}
-use Rattle.values.specs.declared.name.Name.{Name}
+use Rattle.strings.specs.declared.name.Name.{Name}
 use Rattle.reply.specs.declared.Layout.{Layout}
 use Rattle.reply.specs.Lay.{Written}
 use Rattle.reply.specs.Reply.{replyOf}

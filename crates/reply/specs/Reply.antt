@@ -4,9 +4,9 @@ use mathlib.Core.Bool.{Bool, true, false, cond}
 use mathlib.Core.List.{List, [], _++_}
 use lib.Dec.{ltb}
 use lib.ListN.{length, take, drop}
-use Rattle.values.specs.Bytes.{longest}
-use Rattle.values.specs.Names.{nameBytes}
-use Rattle.values.specs.declared.name.Name.{Name}
+use Rattle.strings.specs.Bytes.{longest}
+use Rattle.strings.specs.Names.{nameBytes}
+use Rattle.strings.specs.declared.name.Name.{Name}
 use Rattle.reply.specs.Bytes.{wordBytes, object}
 use Rattle.reply.specs.declared.Layout.{Layout}
 use Rattle.reply.specs.declared.Layout.the-variants.{Silent, Bare, Flat, Nest, Confirmed, Pair}

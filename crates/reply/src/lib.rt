@@ -2,8 +2,8 @@
 ghost use lib.ListN.{length};
 ghost use Rattle.reply.specs.Lay.{Written};
 ghost use Rattle.reply.specs.Reply.{replyOf};
-use values::bytes::STRING;
-use values::name::Name;
+use strings::bytes::STRING;
+use strings::name::Name;
 
 mod wire;
 

@@ -5,15 +5,14 @@ use native.Mathlib.Nat.{zero-div}
 use mathlib.Core.Bool.{Bool, true, false, cond, not, _&&_}
 use mathlib.Core.Path.{_≡_, refl, sym, ap, _∙_}
 use borrow.Author.Tests.{eq-eqb, ne-eqb}
-use Rattle.values.specs.Rights.{low, common, hasRight}
-use Rattle.values.proofs.Bits.{common-right}
-use Rattle.values.specs.declared.rights.Rights.{Rights}
-use Rattle.values.specs.declared.rights.Granted.{Granted}
-use Rattle.session.specs.declared.Reach.{Reach}
-use Rattle.session.specs.declared.Chain.{Chain}
+use Rattle.rights.specs.Rights.{low, common, hasRight}
+use Rattle.rights.proofs.Bits.{common-right}
+use Rattle.rights.specs.declared.Rights.{Rights}
+use Rattle.rights.specs.declared.Granted.{Granted}
+use Rattle.standing.specs.declared.Reach.{Reach}
+use Rattle.standing.specs.declared.Chain.{Chain}
 use Rattle.session.specs.declared.Context.{Context}
-use Rattle.session.specs.Session.{openedByCan}
-use Rattle.session.specs.Moment.{rank, isAuthenticated}
+use Rattle.standing.specs.Standing.{openedByCan, rank, isAuthenticated}
 use Rattle.session.specs.Authorization.{nothing, rootOf, confirmedOf, sharedBy, authorization}
 
 pub root-arm : (x d : Reach) (r : Rights) → x ≡ d → r ≡ rootOf d → r ≡ rootOf x

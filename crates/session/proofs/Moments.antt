@@ -9,11 +9,11 @@ use Rattle.command.specs.declared.kind.Kind.the-variants.{ChoosePassword, Gener
 use Rattle.event.specs.declared.run.Choice.{Choice}
 use Rattle.event.specs.declared.run.Step.{Step}
 use Rattle.event.specs.Run.{isLast}
-use Rattle.session.specs.declared.Stage.{Stage}
-use Rattle.session.specs.declared.Stage.the-variants.{Run}
+use Rattle.standing.specs.declared.Stage.{Stage}
+use Rattle.standing.specs.declared.Stage.the-variants.{Run}
 use Rattle.session.specs.declared.Session.{Session}
-use Rattle.session.specs.Session.{hasRights, hasTerminal, isSelected}
-use Rattle.session.specs.Moment.{rank, generalMoment, momentOf}
+use Rattle.standing.specs.Standing.{hasRights, hasTerminal, isSelected, rank}
+use Rattle.session.specs.Moment.{generalMoment, momentOf}
 
 pub run-moment : (s : Stage) (ch : Bool) (c : Choice) (p : Step) (l : Bool) → s ≡ Run c p → l ≡ isLast p → (l && not ch) || (not l && ch) ≡ generalMoment s ch
 run-moment s ch c p l e f = rw (e, f)

@@ -4,37 +4,33 @@ use Prim.Native.Nat.{ℕ}
 use mathlib.Core.Bool.{Bool, true, not, _&&_, _||_}
 use mathlib.Core.Path.{_≡_, sym, ap}
 use lib.Dec.{leb, eqb}
-use Rattle.values.specs.Rights.{rightsFit, roleOf, isCvca, isDv, isTerminal}
-use Rattle.values.specs.Points.{noPoint, pointFits}
-use Rattle.values.specs.Keys.{noKey, keyFits, keyStands}
+use Rattle.rights.specs.Rights.{rightsFit, roleOf, isCvca, isDv, isTerminal}
+use Rattle.values.specs.Points.{pointFits}
+use Rattle.strings.specs.Keys.{noKey, keyFits, keyStands}
 use Rattle.values.specs.declared.point.Point.{Point}
-use Rattle.values.specs.declared.key.Key.{Key}
-use Rattle.values.specs.declared.rights.Rights.{Rights}
-use Rattle.values.specs.declared.rights.Role.{Role}
-use Rattle.values.specs.declared.rights.Granted.{Granted}
-use Rattle.values.specs.declared.rights.Granted.the-variants.{These}
+use Rattle.strings.specs.declared.key.Key.{Key}
+use Rattle.rights.specs.declared.Rights.{Rights}
+use Rattle.rights.specs.declared.Role.{Role}
+use Rattle.rights.specs.declared.Granted.{Granted}
+use Rattle.rights.specs.declared.Granted.the-variants.{These}
 use Rattle.event.specs.declared.run.Choice.{Choice}
 use Rattle.event.specs.declared.run.Password.{Password}
 use Rattle.event.specs.declared.run.Step.{Step}
 use Rattle.event.specs.Run.{passwordOf, rightsNamed, isPin}
-use Rattle.session.specs.declared.Opened.{Opened}
-use Rattle.session.specs.declared.Reach.{Reach}
-use Rattle.session.specs.declared.Reach.the-variants.{Empty, ToDv, ToTerminal}
-use Rattle.session.specs.declared.Chain.{Chain}
-use Rattle.session.specs.declared.Selected.the-variants.{NoIssuer}
-use Rattle.session.specs.declared.Stage.{Stage}
-use Rattle.session.specs.declared.Stage.the-variants.{Idle, Run}
+use Rattle.standing.specs.declared.Opened.{Opened}
+use Rattle.standing.specs.declared.Reach.{Reach}
+use Rattle.standing.specs.declared.Reach.the-variants.{Empty, ToDv, ToTerminal}
+use Rattle.standing.specs.declared.Chain.{Chain}
+use Rattle.standing.specs.declared.Selected.the-variants.{NoIssuer}
+use Rattle.standing.specs.declared.Stage.{Stage}
+use Rattle.standing.specs.declared.Stage.the-variants.{Idle, Run}
 use Rattle.session.specs.declared.Context.{Context}
 use Rattle.session.specs.declared.Session.{Session}
-use Rattle.session.specs.Session.{openedByPin, openedByCan, hasRights, hasDv, hasTerminal, noChain, bareSession, chainedTo}
-use Rattle.session.specs.Moment.{rank}
+use Rattle.standing.specs.Standing.{openedByPin, openedByCan, hasRights, hasDv, hasTerminal, noChain, rank}
+use Rattle.session.specs.Session.{bareSession, chainedTo}
 use Rattle.session.specs.Fits.{grantedFits, rootFits, dvFits, terminalFits, reachFits, chainFits, runFits, stageFits, groundFits, contextFits}
 
 -- ---- sessions
-
-pub chain-none : (a b : Point) → a ≡ noPoint → b ≡ noPoint → _≡_ {A = Chain} (record { reach = Empty; dv = a; terminal = b }) noChain
-unfolding noChain
-chain-none a b e f = rw (e, f)
 
 pub bare-is : (o : Opened) (g : Granted) (s : Stage) (c : Chain) (k : Key) → c ≡ noChain → k ≡ noKey
     → _≡_ {A = Session} (record { context = record { opened = o; confirmed = g; chain = c; stage = s; key = k }; selected = NoIssuer }) (bareSession o g s)
@@ -93,4 +89,4 @@ pub context-is : (x : Context) (pin : ℕ) (a b c d e : Bool) → a ≡ grantedF
 unfolding contextFits
 context-is x pin a b c d e f g h i j = rw (f, g, h, i, j)
 
-pub ruleset parts = (chain-none, bare-is, chained-is, granted-these, root-is, dv-is, terminal-is, chain-empty, chain-dv, chain-terminal, run-fits, stage-run, ground-is, context-is, needs)
+pub ruleset parts = (bare-is, chained-is, granted-these, root-is, dv-is, terminal-is, chain-empty, chain-dv, chain-terminal, run-fits, stage-run, ground-is, context-is, needs)

@@ -2,50 +2,20 @@
 use Prim.Native.Nat.{ℕ}
 use mathlib.Core.Bool.{Bool}
 use Rattle.laws.proofs.Pinned.{Pinned, pinned}
-use Rattle.values.specs.declared.key.Key.{Key}
-use Rattle.values.specs.declared.rights.Rights.{Rights}
-use Rattle.values.specs.declared.rights.Granted.{Granted}
+use Rattle.strings.specs.declared.key.Key.{Key}
+use Rattle.rights.specs.declared.Rights.{Rights}
+use Rattle.rights.specs.declared.Granted.{Granted}
 use Rattle.event.specs.declared.happening.Issuer.{Issuer}
 use Rattle.command.specs.declared.kind.Kind.{Kind}
-use Rattle.session.specs.Session.{noChain, noSession, bareSession, atStage, announcedWith, chainedTo, selecting, isOpen, openedByPin, openedByCan, openedByPuk, hasRights, hasDv, hasTerminal, isSelected}
-use Rattle.session.specs.Moment.{rank, momentOf}
+use Rattle.session.specs.Session.{noSession, bareSession, atStage, announcedWith, chainedTo, selecting}
+use Rattle.session.specs.Moment.{momentOf}
 use Rattle.session.specs.Fits.{grantedFits, contextFits}
 use Rattle.session.specs.Authorization.{authorization}
-use Rattle.session.specs.declared.Opened.{Opened}
-use Rattle.session.specs.declared.Chain.{Chain}
-use Rattle.session.specs.declared.Selected.{Selected}
-use Rattle.session.specs.declared.Stage.{Stage}
+use Rattle.standing.specs.declared.Opened.{Opened}
+use Rattle.standing.specs.declared.Chain.{Chain}
+use Rattle.standing.specs.declared.Stage.{Stage}
 use Rattle.session.specs.declared.Context.{Context}
 use Rattle.session.specs.declared.Session.{Session}
-
--- ---- who opened it, and what stands in it
-
-pub is-open-pinned : (o : Opened) → Pinned Bool (isOpen o)
-is-open-pinned o = pinned _
-
-pub by-pin-pinned : (o : Opened) → Pinned Bool (openedByPin o)
-by-pin-pinned o = pinned _
-
-pub by-can-pinned : (o : Opened) → Pinned Bool (openedByCan o)
-by-can-pinned o = pinned _
-
-pub by-puk-pinned : (o : Opened) → Pinned Bool (openedByPuk o)
-by-puk-pinned o = pinned _
-
-pub chain-none-pinned : Pinned Chain noChain
-chain-none-pinned = pinned _
-
-pub has-dv-pinned : (c : Chain) → Pinned Bool (hasDv c)
-has-dv-pinned c = pinned _
-
-pub has-terminal-pinned : (c : Chain) → Pinned Bool (hasTerminal c)
-has-terminal-pinned c = pinned _
-
-pub has-rights-pinned : (g : Granted) → Pinned Bool (hasRights g)
-has-rights-pinned g = pinned _
-
-pub stands-pinned : (s : Selected) → Pinned Bool (isSelected s)
-stands-pinned s = pinned _
 
 -- ---- sessions
 
@@ -68,9 +38,6 @@ pub selecting-pinned : (z : Session) (i : Issuer) → Pinned Session (selecting 
 selecting-pinned z i = pinned _
 
 -- ---- moment, limits, authorization
-
-pub rank-pinned : (s : Stage) → Pinned ℕ (rank s)
-rank-pinned s = pinned _
 
 pub moment-pinned : (z : Session) (k : Kind) (chained : Bool) → Pinned Bool (momentOf z k chained)
 moment-pinned z k chained = pinned _

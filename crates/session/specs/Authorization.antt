@@ -1,16 +1,15 @@
 -- "Effective authorization is the bitwise AND of the low 38 bits of trust point, DV, terminal and confirmed rights, once
 -- authenticated; zero otherwise, and zero if the CAN opened and bit 4 is missing from it." Assumes nothing: these are definitions.
 use mathlib.Core.Bool.{cond, not, _&&_}
-use Rattle.values.specs.Rights.{common, hasRight}
-use Rattle.values.specs.declared.rights.Rights.{Rights}
-use Rattle.values.specs.declared.rights.Granted.{Granted}
-use Rattle.values.specs.declared.rights.Granted.the-variants.{These, NoRights}
-use Rattle.session.specs.declared.Reach.{Reach}
-use Rattle.session.specs.declared.Reach.the-variants.{Empty, ToDv, ToTerminal}
-use Rattle.session.specs.declared.Chain.{Chain}
+use Rattle.rights.specs.Rights.{common, hasRight}
+use Rattle.rights.specs.declared.Rights.{Rights}
+use Rattle.rights.specs.declared.Granted.{Granted}
+use Rattle.rights.specs.declared.Granted.the-variants.{These, NoRights}
+use Rattle.standing.specs.declared.Reach.{Reach}
+use Rattle.standing.specs.declared.Reach.the-variants.{Empty, ToDv, ToTerminal}
+use Rattle.standing.specs.declared.Chain.{Chain}
 use Rattle.session.specs.declared.Context.{Context}
-use Rattle.session.specs.Session.{openedByCan}
-use Rattle.session.specs.Moment.{isAuthenticated}
+use Rattle.standing.specs.Standing.{openedByCan, isAuthenticated}
 
 abbrev pub nothing : Rights
 nothing = record { 0 = 0 }

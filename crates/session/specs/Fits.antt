@@ -2,24 +2,23 @@
 use Prim.Native.Nat.{ℕ}
 use mathlib.Core.Bool.{Bool, true, not, _&&_, _||_}
 use lib.Dec.{eqb}
-use Rattle.values.specs.Rights.{rightsFit, roleOf, isCvca, isDv, isTerminal}
+use Rattle.rights.specs.Rights.{rightsFit, roleOf, isCvca, isDv, isTerminal}
 use Rattle.values.specs.Points.{pointFits}
-use Rattle.values.specs.Keys.{keyFits, keyStands}
+use Rattle.strings.specs.Keys.{keyFits, keyStands}
 use Rattle.values.specs.declared.point.Point.{Point}
-use Rattle.values.specs.declared.rights.Rights.{Rights}
-use Rattle.values.specs.declared.rights.Granted.{Granted}
-use Rattle.values.specs.declared.rights.Granted.the-variants.{These, NoRights}
+use Rattle.rights.specs.declared.Rights.{Rights}
+use Rattle.rights.specs.declared.Granted.{Granted}
+use Rattle.rights.specs.declared.Granted.the-variants.{These, NoRights}
 use Rattle.event.specs.declared.run.Choice.{Choice}
 use Rattle.event.specs.declared.run.Step.{Step}
 use Rattle.event.specs.Run.{passwordOf, rightsNamed, isPin}
-use Rattle.session.specs.declared.Reach.{Reach}
-use Rattle.session.specs.declared.Reach.the-variants.{Empty, ToDv, ToTerminal}
-use Rattle.session.specs.declared.Chain.{Chain}
-use Rattle.session.specs.declared.Stage.{Stage}
-use Rattle.session.specs.declared.Stage.the-variants.{Idle, Run, Announced, Challenged, Proven, ChipKeyChosen, Authenticated}
+use Rattle.standing.specs.declared.Reach.{Reach}
+use Rattle.standing.specs.declared.Reach.the-variants.{Empty, ToDv, ToTerminal}
+use Rattle.standing.specs.declared.Chain.{Chain}
+use Rattle.standing.specs.declared.Stage.{Stage}
+use Rattle.standing.specs.declared.Stage.the-variants.{Idle, Run, Announced, Challenged, Proven, ChipKeyChosen, Authenticated}
 use Rattle.session.specs.declared.Context.{Context}
-use Rattle.session.specs.Session.{openedByPin, openedByCan, hasRights, hasDv, hasTerminal}
-use Rattle.session.specs.Moment.{told}
+use Rattle.standing.specs.Standing.{openedByPin, openedByCan, hasRights, hasDv, hasTerminal, told}
 
 -- "a counter, name, date, rights value or stored length breaks this paper"
 abbrev pub grantedFits : Granted → Bool

@@ -1,40 +1,13 @@
 -- When each command may come. Assumes nothing: these are definitions.
-use Prim.Native.Nat.{ℕ}
 use mathlib.Core.Bool.{Bool, true, false, not, _&&_, _||_}
-use lib.Dec.{leb, eqb}
+use lib.Dec.{eqb}
 use Rattle.command.specs.declared.kind.Kind.{Kind}
 use Rattle.command.specs.declared.kind.Kind.the-variants.{ChoosePassword, General, SelectIssuer, VerifyCertificate, Announce, Challenge, ProveTerminal, ChooseChipKey, Read, ChangePin, Unblock, Activate, Deactivate}
 use Rattle.event.specs.Run.{isLast}
-use Rattle.session.specs.declared.Stage.{Stage}
-use Rattle.session.specs.declared.Stage.the-variants.{Idle, Run, Announced as AtAnnounced, Challenged as AtChallenged, Proven as AtProven, ChipKeyChosen as AtChosen, Authenticated as AtAuthenticated}
+use Rattle.standing.specs.declared.Stage.{Stage}
+use Rattle.standing.specs.declared.Stage.the-variants.{Idle, Run, Announced as AtAnnounced, Challenged as AtChallenged, Proven as AtProven, ChipKeyChosen as AtChosen, Authenticated as AtAuthenticated}
 use Rattle.session.specs.declared.Session.{Session}
-use Rattle.session.specs.Session.{hasRights, hasTerminal, isSelected}
-
--- "one stage: no run, password run with its step, announced, challenged, terminal proven, chip key chosen, authenticated":
--- how far a session has come, a run apart from the others
-abbrev pub rank : Stage → ℕ
-rank (Run c p) = 0
-rank Idle = 1
-rank AtAnnounced = 2
-rank AtChallenged = 3
-rank AtProven = 4
-rank AtChosen = 5
-rank AtAuthenticated = 6
-
--- no run is open
-abbrev pub noRun : Stage → Bool
-noRun s = leb 1 (rank s)
-
--- no run is open, and the terminal is not yet proven
-abbrev pub unproven : Stage → Bool
-unproven s = noRun s && leb (rank s) 3
-
--- from announced on
-abbrev pub told : Stage → Bool
-told s = leb 2 (rank s)
-
-abbrev pub isAuthenticated : Stage → Bool
-isAuthenticated s = eqb (rank s) 6
+use Rattle.standing.specs.Standing.{hasRights, hasTerminal, isSelected, rank, noRun, unproven}
 
 -- "CLA 10 for steps 1 to 3, 00 for the fourth (else 6985)"; the chip key's "86 0000, CLA 00 (else 6985)"
 abbrev pub generalMoment : Stage → Bool → Bool

@@ -1,11 +1,11 @@
 // The effective authorization of a session.
 ghost use mathlib.Core.Path.{_≡_};
 ghost use Rattle.session.specs.Authorization.{rootOf, confirmedOf, sharedBy, authorization};
-use super::Chain;
 use super::Context;
-use super::Reach;
-use values::rights::Granted;
-use values::rights::Rights;
+use rights::Granted;
+use rights::Rights;
+use standing::Chain;
+use standing::Reach;
 
 // The rights of the trust point that the chain stands under.
 fn root(reach: Reach) -> Rights

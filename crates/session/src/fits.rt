@@ -1,16 +1,16 @@
 // The limits of a session's parts.
 ghost use mathlib.Core.Path.{_≡_};
 ghost use Rattle.session.specs.Fits.{grantedFits, rootFits, dvFits, terminalFits, chainFits, runFits, stageFits, groundFits, contextFits};
-use super::Chain;
 use super::Context;
-use super::Reach;
-use super::Stage;
-use super::has_rights;
 use event::run::Choice;
 use event::run::Step;
+use rights::Granted;
+use rights::Rights;
+use standing::Chain;
+use standing::Reach;
+use standing::Stage;
+use standing::has_rights;
 use values::point::Point;
-use values::rights::Granted;
-use values::rights::Rights;
 
 pub fn granted_fits(granted: Granted) -> bool
     ensures { λ r. ⌜ r ≡ grantedFits granted ⌝ }

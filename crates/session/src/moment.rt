@@ -1,43 +1,27 @@
 // The moment of each command: over the session, the command's kind and its CLA, before any data is judged.
 ghost use mathlib.Core.Path.{_≡_};
-ghost use Rattle.session.specs.Moment.{rank, generalMoment, momentOf};
+ghost use Rattle.standing.specs.Standing.{rank};
+ghost use Rattle.session.specs.Moment.{generalMoment, momentOf};
 use super::Session;
-use super::Stage;
-use super::has_rights;
 use command::kind::Kind;
+use standing::Stage;
+use standing::has_rights;
 
-impl Stage {
-    // How far a session has come; a run stands apart.
-    pub fn rank(self) -> u8
-        ensures { λ r. ⌜ r ≡ rank self ⌝ }
-    {
-        match self {
-            Stage::Run(_, _) => 0,
-            Stage::Idle => 1,
-            Stage::Announced => 2,
-            Stage::Challenged => 3,
-            Stage::Proven => 4,
-            Stage::ChipKeyChosen => 5,
-            Stage::Authenticated => 6,
+// CLA 10 for steps 1 to 3, 00 for the fourth and for the chip key.
+fn general(stage: Stage, chained: bool) -> bool
+    ensures { λ r. ⌜ r ≡ generalMoment stage chained ⌝ }
+{
+    match stage {
+        Stage::Run(_, step) => {
+            let last = step.is_last();
+            (last & !chained) | (!last & chained)
         }
-    }
-
-    // CLA 10 for steps 1 to 3, 00 for the fourth and for the chip key.
-    fn general(self, chained: bool) -> bool
-        ensures { λ r. ⌜ r ≡ generalMoment self chained ⌝ }
-    {
-        match self {
-            Stage::Run(_, step) => {
-                let last = step.is_last();
-                (last & !chained) | (!last & chained)
-            }
-            Stage::Idle => false,
-            Stage::Announced => false,
-            Stage::Challenged => false,
-            Stage::Proven => false,
-            Stage::ChipKeyChosen => !chained,
-            Stage::Authenticated => false,
-        }
+        Stage::Idle => false,
+        Stage::Announced => false,
+        Stage::Challenged => false,
+        Stage::Proven => false,
+        Stage::ChipKeyChosen => !chained,
+        Stage::Authenticated => false,
     }
 }
 
@@ -56,7 +40,7 @@ impl Session {
         let rights = has_rights(confirmed);
         match kind {
             Kind::ChoosePassword => true,
-            Kind::General => stage.general(chained),
+            Kind::General => general(stage, chained),
             Kind::SelectIssuer => rights & unproven,
             Kind::VerifyCertificate => rights & unproven & selected.stands(),
             Kind::Announce => chain.has_terminal() & unproven,

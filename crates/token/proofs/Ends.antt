@@ -5,12 +5,12 @@ use mathlib.Core.List.{List}
 use borrow.Author.Tests.{lt-ltb, le-ltb}
 use lib.ListN.{length, take}
 use lib.Seq.{length-take-le}
-use Rattle.event.specs.declared.course.Note.{Note}
-use Rattle.event.specs.declared.course.Plan.{Plan}
-use Rattle.event.specs.declared.settle.Answered.{Answered}
-use Rattle.event.specs.declared.settle.Happened.{Happened}
-use Rattle.event.specs.Settle.{settleOf}
-use Rattle.event.proofs.Settles.{answer-in}
+use Rattle.settle.specs.declared.course.Note.{Note}
+use Rattle.settle.specs.declared.course.Plan.{Plan}
+use Rattle.settle.specs.declared.verdict.Answered.{Answered}
+use Rattle.settle.specs.declared.verdict.Happened.{Happened}
+use Rattle.settle.specs.Settle.{settleOf}
+use Rattle.settle.proofs.Settles.{answer-in}
 use Rattle.reply.specs.Lay.{Written}
 use Rattle.reply.specs.Reply.{room}
 use Rattle.answer.specs.Answer.{replyTo}

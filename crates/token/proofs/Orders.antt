@@ -8,17 +8,17 @@ use Rattle.command.specs.declared.kind.Kind.{Kind}
 use Rattle.event.specs.declared.happening.Refusal.the-variants.{Moment, Outside}
 use Rattle.event.specs.declared.happening.Loss.{Loss}
 use Rattle.event.specs.declared.happening.Event.the-variants.{Refused, Lost}
-use Rattle.event.specs.declared.course.Note.{Note}
-use Rattle.event.specs.declared.course.Guard.{Guard}
-use Rattle.event.specs.declared.course.Guard.the-variants.{Passes, Drops}
-use Rattle.event.specs.declared.course.Job.{Job}
-use Rattle.event.specs.declared.course.Plan.{Plan}
-use Rattle.event.specs.Course.{settledBy, guardOf, courseJob}
+use Rattle.settle.specs.declared.course.Note.{Note}
+use Rattle.settle.specs.declared.course.Guard.{Guard}
+use Rattle.settle.specs.declared.course.Guard.the-variants.{Passes, Drops}
+use Rattle.settle.specs.declared.course.Job.{Job}
+use Rattle.settle.specs.declared.course.Plan.{Plan}
+use Rattle.settle.specs.Course.{settledBy, guardOf, courseJob}
 use Rattle.fields.specs.declared.asked.Ask.{Ask}
 use Rattle.fields.specs.declared.asked.Request.{Request}
 use Rattle.fields.specs.declared.asked.Asked.{Asked}
 use Rattle.fields.specs.Asked.{askedOf}
-use Rattle.session.specs.Session.{isOpen}
+use Rattle.standing.specs.Standing.{isOpen}
 use Rattle.session.specs.Moment.{momentOf}
 use Rattle.token.specs.declared.state.Token.{Token}
 use Rattle.token.specs.Limits.{inLimits}

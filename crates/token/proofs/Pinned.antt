@@ -6,14 +6,14 @@ use mathlib.Core.List.{List}
 use lib.ListN.{length}
 use Rattle.laws.proofs.Pinned.{Pinned, pinned}
 use Rattle.values.specs.declared.day.Day.{Day}
-use Rattle.values.specs.declared.key.Key.{Key}
+use Rattle.strings.specs.declared.key.Key.{Key}
 use Rattle.values.specs.declared.point.Point.{Point}
-use Rattle.event.specs.Course.{courseJob}
+use Rattle.settle.specs.Course.{courseJob}
 use Rattle.event.specs.declared.happening.Event.{Event}
-use Rattle.event.specs.declared.course.Note.{Note}
-use Rattle.event.specs.declared.course.Job.{Job}
-use Rattle.event.specs.declared.course.Plan.{Plan}
-use Rattle.event.specs.declared.settle.Answered.{Answered}
+use Rattle.settle.specs.declared.course.Note.{Note}
+use Rattle.settle.specs.declared.course.Job.{Job}
+use Rattle.settle.specs.declared.course.Plan.{Plan}
+use Rattle.settle.specs.declared.verdict.Answered.{Answered}
 use Rattle.trust.specs.Trust.{onePoint, twoPoints}
 use Rattle.reply.specs.Lay.{Written}
 use Rattle.token.specs.State.{noToken, madeOf, resetOf}

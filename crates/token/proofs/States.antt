@@ -10,7 +10,8 @@ use Rattle.values.specs.declared.point.Point.{Point}
 use Rattle.trust.specs.Trust.{onePoint, pointsFit, knows}
 use Rattle.trust.specs.declared.Points.{Points}
 use Rattle.session.specs.declared.Session.{Session}
-use Rattle.session.specs.Session.{hasDv, noSession}
+use Rattle.standing.specs.Standing.{hasDv}
+use Rattle.session.specs.Session.{noSession}
 use Rattle.session.specs.Fits.{contextFits}
 use Rattle.token.specs.declared.state.Token.{Token}
 use Rattle.token.specs.declared.state.Made.the-variants.{Accepted, Unfit}

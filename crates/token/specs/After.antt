@@ -2,13 +2,13 @@
 use Prim.Native.Nat.{ℕ, _-_}
 use mathlib.Core.Bool.{Bool, true, false, cond}
 use Rattle.values.specs.Days.{later}
-use Rattle.values.specs.Rights.{roleOf, isOfficial}
+use Rattle.rights.specs.Rights.{roleOf, isOfficial}
 use Rattle.values.specs.Points.{noPoint}
 use Rattle.values.specs.declared.day.Day.{Day}
-use Rattle.values.specs.declared.key.Key.{Key}
+use Rattle.strings.specs.declared.key.Key.{Key}
 use Rattle.values.specs.declared.point.Point.{Point}
-use Rattle.values.specs.declared.rights.Rights.{Rights}
-use Rattle.values.specs.declared.rights.Granted.the-variants.{NoRights}
+use Rattle.rights.specs.declared.Rights.{Rights}
+use Rattle.rights.specs.declared.Granted.the-variants.{NoRights}
 use Rattle.event.specs.declared.run.Choice.{Choice}
 use Rattle.event.specs.declared.run.Step.{Step}
 use Rattle.event.specs.declared.run.Step.the-variants.{Nonce}
@@ -17,12 +17,13 @@ use Rattle.event.specs.declared.happening.Issuer.{Issuer}
 use Rattle.event.specs.declared.happening.Event.{Event}
 use Rattle.event.specs.declared.happening.Event.the-variants.{Refused, Lost, Chosen, StepPassed, Opened as IsOpened, RunClosed, TrialLost, Selected, LinkTaken, DvTaken, TerminalTaken, Announced as IsAnnounced, Challenged as IsChallenged, Proven as IsProven, ProofLost, ChipKeyChosen as IsChosen, Authenticated as IsAuthenticated, ChipLost, ReadAllowed, PinChanged, UnblockedByPuk, UnblockedByRight, Activated, Deactivated, NotPassed}
 use Rattle.trust.specs.Trust.{linked}
-use Rattle.session.specs.declared.Opened.the-variants.{By}
-use Rattle.session.specs.declared.Reach.{Reach}
-use Rattle.session.specs.declared.Reach.the-variants.{Empty, ToDv, ToTerminal}
-use Rattle.session.specs.declared.Stage.{Stage}
-use Rattle.session.specs.declared.Stage.the-variants.{Idle, Run, Announced, Challenged, Proven, ChipKeyChosen, Authenticated}
-use Rattle.session.specs.Session.{noChain, bareSession, atStage, announcedWith, chainedTo, selecting}
+use Rattle.standing.specs.declared.Opened.the-variants.{By}
+use Rattle.standing.specs.declared.Reach.{Reach}
+use Rattle.standing.specs.declared.Reach.the-variants.{Empty, ToDv, ToTerminal}
+use Rattle.standing.specs.declared.Stage.{Stage}
+use Rattle.standing.specs.declared.Stage.the-variants.{Idle, Run, Announced, Challenged, Proven, ChipKeyChosen, Authenticated}
+use Rattle.standing.specs.Standing.{noChain}
+use Rattle.session.specs.Session.{bareSession, atStage, announcedWith, chainedTo, selecting}
 use Rattle.token.specs.declared.state.Token.{Token}
 use Rattle.token.specs.State.{tries, withSession, withPin, withPuk, withActive, withToday, withPoints, resetOf}
 

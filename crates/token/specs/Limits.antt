@@ -4,9 +4,9 @@ use lib.Dec.{leb}
 use Rattle.values.specs.Days.{dayFits}
 use Rattle.trust.specs.Trust.{pointsFit, knows}
 use Rattle.event.specs.declared.happening.Issuer.the-variants.{Newest, Previous, Dv}
-use Rattle.session.specs.declared.Selected.{Selected}
-use Rattle.session.specs.declared.Selected.the-variants.{NoIssuer, Of}
-use Rattle.session.specs.Session.{hasDv}
+use Rattle.standing.specs.declared.Selected.{Selected}
+use Rattle.standing.specs.declared.Selected.the-variants.{NoIssuer, Of}
+use Rattle.standing.specs.Standing.{hasDv}
 use Rattle.session.specs.Fits.{contextFits}
 use Rattle.token.specs.declared.state.Token.{Token}
 use Rattle.token.specs.State.{tries, uses}

@@ -8,7 +8,7 @@ use Rattle.values.specs.declared.word.Word.{Word}
 use Rattle.values.specs.declared.word.Word.the-variants.{Done, Data}
 use Rattle.trust.specs.Trust.{onePoint, pointsFit}
 use Rattle.trust.specs.declared.Points.{Points}
-use Rattle.session.specs.declared.Chain.{Chain}
+use Rattle.standing.specs.declared.Chain.{Chain}
 use Rattle.session.specs.declared.Context.{Context}
 use Rattle.session.specs.declared.Session.{Session}
 use Rattle.session.specs.Session.{noSession}

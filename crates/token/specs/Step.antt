@@ -4,10 +4,10 @@ use mathlib.Core.Bool.{cond}
 use mathlib.Core.List.{List, []}
 use lib.Dec.{ltb}
 use lib.ListN.{length, take}
-use Rattle.event.specs.declared.course.Note.{Note}
-use Rattle.event.specs.declared.settle.Answered.{Answered}
-use Rattle.event.specs.declared.settle.Happened.{Happened}
-use Rattle.event.specs.Settle.{settleOf}
+use Rattle.settle.specs.declared.course.Note.{Note}
+use Rattle.settle.specs.declared.verdict.Answered.{Answered}
+use Rattle.settle.specs.declared.verdict.Happened.{Happened}
+use Rattle.settle.specs.Settle.{settleOf}
 use Rattle.reply.specs.Reply.{room}
 use Rattle.answer.specs.Answer.{replyTo}
 use Rattle.token.specs.declared.state.Token.{Token}

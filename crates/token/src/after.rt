@@ -6,17 +6,17 @@ use event::happening::Event;
 use event::happening::Issuer;
 use event::run::Choice;
 use event::run::Step;
-use event::settle::Happened;
-use session::Chain;
-use session::Opened;
-use session::Reach;
+use rights::Granted;
+use rights::Rights;
 use session::Session;
-use session::Stage;
+use settle::verdict::Happened;
+use standing::Chain;
+use standing::Opened;
+use standing::Reach;
+use standing::Stage;
+use strings::key::Key;
 use values::day::Day;
-use values::key::Key;
 use values::point::Point;
-use values::rights::Granted;
-use values::rights::Rights;
 
 // The PIN's tries when a session opens with this choice.
 fn tries_after(choice: Choice, pin: u8) -> u8

@@ -1,20 +1,20 @@
 // All checks before the verdict, in document 01's order.
 ghost use mathlib.Core.Path.{_≡_};
-ghost use Rattle.event.specs.Course.{courseJob};
+ghost use Rattle.settle.specs.Course.{courseJob};
 ghost use Rattle.token.specs.Plan.{commandOf, timedOf, requestedOf, planOf};
 use super::state::Token;
 use checks::certify;
 use checks::commands;
 use command::kind::Kind;
-use event::course::Guard;
-use event::course::Job;
-use event::course::Note;
-use event::course::Plan;
 use event::happening::Event;
 use event::happening::Refusal;
 use fields::asked::Ask;
 use fields::asked::Asked;
 use fields::asked::Request;
+use settle::course::Guard;
+use settle::course::Job;
+use settle::course::Note;
+use settle::course::Plan;
 
 impl Token {
     // The command's own checks, data first.

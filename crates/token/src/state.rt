@@ -3,10 +3,10 @@ ghost use mathlib.Core.Path.{_≡_};
 ghost use Rattle.trust.specs.Trust.{onePoint, twoPoints};
 ghost use Rattle.token.specs.State.{startOf, noToken, madeOf, resetOf};
 use session::Session;
+use strings::key::Key;
+use strings::name::Name;
 use trust::Points;
 use values::day::Day;
-use values::key::Key;
-use values::name::Name;
 use values::point::Point;
 
 pub struct Token {

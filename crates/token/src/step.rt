@@ -4,8 +4,8 @@ ghost use lib.ListN.{length};
 ghost use Rattle.reply.specs.Lay.{Written};
 ghost use Rattle.token.specs.Step.{stepOf};
 use super::state::Token;
-use event::course::Note;
-use event::settle::Answered;
+use settle::course::Note;
+use settle::verdict::Answered;
 
 // What a step hands back: the token, and the reply's length.
 pub struct Outcome {

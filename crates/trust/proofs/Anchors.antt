@@ -2,12 +2,12 @@
 use borrow.Author.Needs.{needs}
 use mathlib.Core.Bool.{Bool, true, false, not, _&&_, _||_}
 use mathlib.Core.Path.{_≡_}
-use Rattle.values.specs.Names.{sameName}
-use Rattle.values.specs.Rights.{roleOf, isCvca}
+use Rattle.strings.specs.Names.{sameName}
+use Rattle.rights.specs.Rights.{roleOf, isCvca}
 use Rattle.values.specs.Points.{noPoint, pointFits}
-use Rattle.values.specs.declared.name.Name.{Name}
+use Rattle.strings.specs.declared.name.Name.{Name}
 use Rattle.values.specs.declared.point.Point.{Point}
-use Rattle.values.specs.declared.rights.Role.{Role}
+use Rattle.rights.specs.declared.Role.{Role}
 use Rattle.event.specs.declared.happening.Issuer.the-variants.{Newest, Previous}
 use Rattle.trust.specs.Trust.{anchorFits, onePoint, pointsFit, knows, found}
 use Rattle.trust.specs.declared.Points.{Points}

@@ -1,7 +1,7 @@
 -- Two permitted outcomes of each public function are equal. Assumes nothing.
 use mathlib.Core.Bool.{Bool}
 use Rattle.laws.proofs.Pinned.{Pinned, pinned}
-use Rattle.values.specs.declared.name.Name.{Name}
+use Rattle.strings.specs.declared.name.Name.{Name}
 use Rattle.values.specs.declared.point.Point.{Point}
 use Rattle.event.specs.declared.happening.Issuer.{Issuer}
 use Rattle.trust.specs.Trust.{onePoint, twoPoints, pointsFit, knows, found, holderOf, linked}

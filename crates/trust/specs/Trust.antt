@@ -1,9 +1,9 @@
 -- "newest trust point and perhaps a previous one". Assumes nothing: these are definitions.
 use mathlib.Core.Bool.{Bool, true, false, cond, not, _&&_, _||_}
-use Rattle.values.specs.Names.{sameName}
-use Rattle.values.specs.Rights.{roleOf, isCvca}
+use Rattle.strings.specs.Names.{sameName}
+use Rattle.rights.specs.Rights.{roleOf, isCvca}
 use Rattle.values.specs.Points.{noPoint, pointFits}
-use Rattle.values.specs.declared.name.Name.{Name}
+use Rattle.strings.specs.declared.name.Name.{Name}
 use Rattle.values.specs.declared.point.Point.{Point}
 use Rattle.event.specs.declared.happening.Issuer.{Issuer}
 use Rattle.event.specs.declared.happening.Issuer.the-variants.{Newest, Previous, Dv}

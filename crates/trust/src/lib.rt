@@ -2,7 +2,7 @@
 ghost use mathlib.Core.Path.{_≡_};
 ghost use Rattle.trust.specs.Trust.{anchorFits, onePoint, twoPoints, pointsFit, knows, found, holderOf, linked};
 use event::happening::Issuer;
-use values::name::Name;
+use strings::name::Name;
 use values::point::Point;
 
 pub struct Points {

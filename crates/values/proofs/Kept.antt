@@ -1,95 +1,15 @@
--- What is kept of good bytes is good, and is those bytes. Assumes nothing.
-use Prim.Native.Nat.{ℕ, _^_, _≤_, min}
-use native.Mathlib.Omega.{arith}
-use native.Mathlib.Nat.{mod-lt}
-use mathlib.Core.Path.{_≡_, refl, sym, _∙_}
-use mathlib.Core.Bool.{Bool, true, false}
+-- What is kept of good bytes is good. Assumes nothing.
+use Prim.Native.Nat.{ℕ}
+use mathlib.Core.Path.{_≡_}
+use mathlib.Core.Bool.{true}
 use mathlib.Core.List.{List}
-use borrow.Author.Tests.{leb-true, le-leb, lt-ltb}
-use lib.Dec.{leb, eqb}
-use lib.Pow.{pow-pos}
-use lib.ListN.{length, take, drop, replicate}
-use lib.Seq.{take-append-le, take-all}
-use Rattle.laws.proofs.Bools.{and-l, and-r}
-use Rattle.values.specs.Bytes.{among, allOf, copiedInto}
-use Rattle.values.specs.Names.{isName, nameOf, nameBytes, nameFits, sameName}
+use lib.Dec.{eqb}
+use lib.ListN.{length}
+use Rattle.laws.proofs.Bools.{and-r}
+use Rattle.strings.specs.Bytes.{allOf}
 use Rattle.values.specs.Days.{isDay, dayOf, dayFits}
-use Rattle.values.specs.Rights.{width, rightsOf, rightsFit}
-use Rattle.values.specs.Keys.{isKey, keyOf, keyBytes, keyFits, keyStands}
-use Rattle.values.specs.declared.bytes.Class.the-variants.{Digit}
-use Rattle.values.specs.declared.name.Name.{Name}
-use Rattle.values.proofs.Strings.{eqbs-true, eqbs-refl}
-
--- a string copied to the start of an array with room for it
-kept : (o c : List ℕ) → length c ≤ length o → take (min (length c) (length o)) (copiedInto o c) ≡ c
-unfolding copiedInto
-kept o c h =
-    let e : min (length c) (length o) ≡ length c = omega arith in
-    rw (e, take-all (length o) c h, take-append-le (length c) c (drop (length c) o) (omega arith), take-all (length c) c (omega arith))
-
--- ---- names
-
-name-room : (c : List ℕ) → isName c ≡ true → length c ≤ 16
-unfolding isName
-name-room c h = leb-true (length c) 16 (and-r (leb 8 (length c)) (leb (length c) 16) (and-l (among 8 16 (length c)) _ h))
-
-pub name-bytes : (c : List ℕ) → isName c ≡ true → nameBytes (nameOf c) ≡ c
-unfolding nameOf
-name-bytes c h = kept (replicate 16 0) c (name-room c h)
-
-name-short : (c : List ℕ) → isName c ≡ true → leb (nameOf c .len) 16 ≡ true
-unfolding nameOf
-name-short c h = le-leb (min (length c) 16) 16 (omega arith)
-
-pub name-good : (c : List ℕ) → isName c ≡ true → nameFits (nameOf c) ≡ true
-unfolding nameFits
-name-good c h = rw (name-short c h, name-bytes c h) h
-
--- ---- days
+use Rattle.strings.specs.declared.bytes.Class.the-variants.{Digit}
 
 pub day-good : (c : List ℕ) → isDay c ≡ true → dayFits (record { 0 = dayOf c }) ≡ true
 unfolding isDay dayFits
 day-good c h = and-r (allOf Digit c) _ (and-r (eqb (length c) 6) _ h)
-
--- ---- rights
-
-pub rights-good : (c : List ℕ) → rightsFit (record { 0 = rightsOf c }) ≡ true
-unfolding rightsFit
-rights-good c = lt-ltb (rightsOf c) (2 ^ width) (mod-lt _ (pow-pos width))
-
--- ---- keys
-
-key-size : (c : List ℕ) → isKey c ≡ true → (1 ≤ length c) × (length c ≤ 66)
-unfolding isKey
-key-size c h = (leb-true 1 (length c) (and-l (leb 1 (length c)) (leb (length c) 66) h), leb-true (length c) 66 (and-r (leb 1 (length c)) (leb (length c) 66) h))
-
-pub key-bytes : (c : List ℕ) → isKey c ≡ true → keyBytes (keyOf c) ≡ c
-unfolding keyOf
-key-bytes c h = kept (replicate 66 0) c (key-size c h .1)
-
-pub key-good : (c : List ℕ) → isKey c ≡ true → keyFits (keyOf c) ≡ true
-unfolding keyFits keyOf
-key-good c h = le-leb (min (length c) 66) 66 (omega arith)
-
-pub key-there : (c : List ℕ) → isKey c ≡ true → keyStands (keyOf c) ≡ true
-unfolding keyStands keyOf
-key-there c h = let s = key-size c h in le-leb 1 (min (length c) 66) (omega arith)
-
--- ---- the test on names: it is that of their bytes, so one name may stand for another that is the same
-
-pub same-self : (a : Name) → sameName a a ≡ true
-unfolding sameName
-same-self a = eqbs-refl (nameBytes a)
-
-pub same-for : (a b c : Name) → sameName a b ≡ true → sameName a c ≡ sameName b c
-unfolding sameName
-same-for a b c e = rw (eqbs-true (nameBytes a) (nameBytes b) e)
-
-pub same-turned : (a b : Name) → sameName a b ≡ sameName b a
-same-turned a b = go (sameName a b) (sameName b a) refl refl
-  where
-    go : (p q : Bool) → sameName a b ≡ p → sameName b a ≡ q → p ≡ q
-    go true true e f = refl
-    go true false e f = sym (same-self a) ∙ same-for a b a e ∙ f
-    go false true e f = sym (sym (same-self b) ∙ same-for b a b f ∙ e)
-    go false false e f = refl

@@ -1,5 +1,3 @@
-pub mod Strings
 pub mod Contents
-pub mod Bits
 pub mod Kept
 pub mod Pinned

@@ -4,8 +4,8 @@ use mathlib.Core.List.{List}
 use mathlib.Core.Bool.{Bool, cond, _&&_}
 use lib.ListN.{length}
 use lib.Dec.{eqb, ltb}
-use Rattle.values.specs.Bytes.{among, allOf, number}
-use Rattle.values.specs.declared.bytes.Class.the-variants.{Digit}
+use Rattle.strings.specs.Bytes.{among, allOf, number}
+use Rattle.strings.specs.declared.bytes.Class.the-variants.{Digit}
 use Rattle.values.specs.declared.day.Day.{Day}
 use Rattle.values.specs.declared.day.Dated.{Dated}
 use Rattle.values.specs.declared.day.Dated.the-variants.{On, NoDay}

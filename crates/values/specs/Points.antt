@@ -1,9 +1,9 @@
 -- A certificate as the token keeps it: "name, 40-bit rights, two dates, key number". Assumes nothing: these are definitions.
 use Prim.Native.Nat.{ℕ}
 use mathlib.Core.Bool.{Bool, not, _&&_}
-use Rattle.values.specs.Names.{noName, nameFits}
+use Rattle.strings.specs.Names.{noName, nameFits}
 use Rattle.values.specs.Days.{dayFits, before}
-use Rattle.values.specs.Rights.{rightsFit}
+use Rattle.rights.specs.Rights.{rightsFit}
 use Rattle.values.specs.declared.day.Day.{Day}
 use Rattle.values.specs.declared.point.Point.{Point}
 

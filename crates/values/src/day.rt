@@ -2,10 +2,10 @@
 ghost use mathlib.Core.Path.{_≡_};
 ghost use Prim.Native.Nat.{_+_, _*_, _≤_};
 ghost use lib.ListN.{length};
-ghost use Rattle.values.specs.Bytes.{number};
+ghost use Rattle.strings.specs.Bytes.{number};
 ghost use Rattle.values.specs.Days.{isDate, dayFits, dated, before, later};
-use super::bytes::Class;
-use super::bytes::all;
+use strings::bytes::Class;
+use strings::bytes::all;
 
 // A day as the number YYYYMMDD.
 pub struct Day(pub u32);

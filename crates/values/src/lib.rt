@@ -1,8 +1,4 @@
-// What a certificate states: a name, two days, rights, a key number; and the byte strings that they are read from.
-pub mod bytes;
+// Days, certificates as they are kept, and status words.
 pub mod day;
-pub mod key;
-pub mod name;
 pub mod point;
-pub mod rights;
 pub mod word;

@@ -2,8 +2,8 @@
 ghost use mathlib.Core.Path.{_≡_};
 ghost use Rattle.values.specs.Points.{noPoint, pointFits, expired, withKey};
 use super::day::Day;
-use super::name::Name;
-use super::rights::Rights;
+use rights::Rights;
+use strings::name::Name;
 
 pub struct Point {
     pub name: Name,

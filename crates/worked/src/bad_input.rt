@@ -6,7 +6,7 @@ use super::show::heading;
 use super::show::number;
 use super::show::text;
 use certificate::Answer;
-use values::bytes::clip;
+use strings::bytes::clip;
 
 pub fn section() {
     heading(b"bad input");

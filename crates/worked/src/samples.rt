@@ -1,14 +1,14 @@
 // A token to talk to, and runs of its passwords that are not written.
 use super::talk::passed;
 use super::talk::quietly;
-use event::course::Job;
-use event::course::Note;
 use event::run::Step;
+use rights::Rights;
+use settle::course::Job;
+use settle::course::Note;
+use strings::name::Name;
 use token::state::Token;
 use values::day::Day;
-use values::name::Name;
 use values::point::Point;
-use values::rights::Rights;
 
 // The CAN, the PIN and the PUK chosen, and the PIN naming 0000000310.
 pub const CAN: [u8; 20] =

@@ -1,9 +1,9 @@
 // Writes what was read as text.
 use certificate::Answer;
 use certificate::Body;
+use rights::Rights;
+use strings::name::Name;
 use values::day::Day;
-use values::name::Name;
-use values::rights::Rights;
 use values::word::Word;
 
 pub fn text(s: &[u8]) {
@@ -80,7 +80,7 @@ pub fn word(w: Word) {
 
 fn name(n: Name) {
     let b = n.bytes;
-    let m = values::bytes::clip(n.len, Name::MOST);
+    let m = strings::bytes::clip(n.len, Name::MOST);
     text(&b[..m]);
     text(b" ");
 }

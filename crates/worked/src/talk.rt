@@ -3,12 +3,12 @@ ghost use Prim.Native.Nat.{_≤_};
 use super::show::hex;
 use super::show::number;
 use super::show::text;
-use event::course::Job;
-use event::course::Note;
-use event::settle::Answered;
-use event::settle::Verdict;
+use settle::course::Job;
+use settle::course::Note;
+use settle::verdict::Answered;
+use settle::verdict::Verdict;
+use strings::bytes::clip;
 use token::state::Token;
-use values::bytes::clip;
 
 // No result.
 pub fn none() -> Answered {

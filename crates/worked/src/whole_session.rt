@@ -10,9 +10,9 @@ use super::show::heading;
 use super::talk::asks;
 use super::talk::passed;
 use super::talk::says;
-use event::course::Job;
-use event::course::Note;
 use event::run::Step;
+use settle::course::Job;
+use settle::course::Note;
 use token::state::Token;
 use values::day::Day;
 

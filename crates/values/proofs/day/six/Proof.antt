@@ -6,7 +6,7 @@ use mathlib.Core.Path.{_≡_}
 use native.Mathlib.Omega.{arith}
 use borrow.Author.Needs.{needs}
 use Rattle.laws.proofs.Lists.{six-of}
-use Rattle.values.specs.Bytes.{number}
+use Rattle.strings.specs.Bytes.{number}
 use Rattle.values.proofs.day.six.Statement.{statement}
 use Rattle.values.proofs.day.six.Tie as tie
 

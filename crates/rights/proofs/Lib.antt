@@ -1,0 +1,4 @@
+pub mod Contents
+pub mod Bits
+pub mod Kept
+pub mod Pinned

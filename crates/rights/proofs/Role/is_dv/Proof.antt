@@ -1,0 +1,13 @@
+-- `rights::Role::is_dv` meets its contract. Assumes nothing.
+use borrow.Author.Needs.{needs}
+use Rattle.rights.proofs.Contents.{contents}
+use Rattle.rights.proofs.Role.is_dv.Statement.{statement}
+use Rattle.rights.proofs.Role.is_dv.Tie as tie
+
+pub is-dv-spec : {M : Type 1} → statement M
+is-dv-spec =
+    tie.close
+    (tie.spec
+    (λ c κs. search needs)
+    (λ c κs. search needs)
+    (λ c. search contents))

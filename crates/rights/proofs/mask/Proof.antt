@@ -1,0 +1,46 @@
+-- `rights::mask` meets its contract: the table is checked against the formula once. Assumes nothing.
+use Prim.Native.Nat.{ℕ, _+_, _-_, _^_, _<_, _≤_}
+use mathlib.Core.Path.{_≡_, refl, ap, _∙_}
+use mathlib.Core.List.{List, [], _∷_}
+use mathlib.Core.Bool.{Bool, false}
+use native.Mathlib.Omega.{arith}
+use borrow.Author.Needs.{needs}
+use borrow.Author.Tests.{le-leb, lt-leb}
+use lib.Dec.{eqb, leb, eqb→eq}
+use lib.ListN.{getD}
+use Rattle.laws.proofs.Bools.{and-no}
+use Rattle.laws.proofs.Tables.{at}
+use Rattle.rights.specs.Rights.{groupMask}
+use Rattle.rights.proofs.mask.Statement.{statement}
+use Rattle.rights.proofs.mask.Tie as tie
+
+masks : List ℕ
+masks = 0x100 ∷ 0x200 ∷ 0x400 ∷ 0x800 ∷ 0x1000 ∷ 0x2000 ∷ 0x4000 ∷ 0x8000 ∷ 0x10000 ∷ 0x20000 ∷ 0x40000 ∷ 0x80000 ∷ 0x100000 ∷ 0x200000 ∷ 0x400000 ∷ 0x800000 ∷ 0x1000000 ∷ 0x2000000 ∷ 0x4000000 ∷ 0x8000000 ∷ 0x10000000 ∷ []
+
+right : ℕ → ℕ → Bool
+right k x = eqb x (2 ^ (8 + k))
+
+none-below : (n : ℕ) → n < 1 → 0 ≡ groupMask n
+unfolding groupMask
+none-below n h = rw (lt-leb 1 n h)
+
+none-above : (n : ℕ) → 21 < n → 0 ≡ groupMask n
+unfolding groupMask
+none-above n h = rw (lt-leb n 21 h, and-no (leb 1 n) false refl)
+
+in-table : (n : ℕ) → 1 ≤ n → n ≤ 21 → getD masks (n - 1) 0 ≡ groupMask n
+unfolding masks right groupMask
+in-table n h l =
+    let e : 8 + (n - 1) ≡ 7 + n = omega arith in
+    rw (le-leb 1 n h, le-leb n 21 l) (eqb→eq (getD masks (n - 1) 0) (2 ^ (8 + (n - 1))) (at right masks tt (n - 1) (omega arith)) ∙ ap (λ (k : ℕ). 2 ^ k) e)
+
+pub mask-spec : {M : Type 1} → statement M
+unfolding masks
+mask-spec =
+    tie.close
+    (tie.spec
+    (λ c. search (none-below, needs))
+    (λ c. search (none-above, needs))
+    (λ c. search needs)
+    (λ c. search needs)
+    (λ c. search (in-table, needs)))

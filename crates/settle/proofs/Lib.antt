@@ -1,0 +1,3 @@
+pub mod Small
+pub mod Settles
+pub mod Pinned

@@ -1,0 +1,17 @@
+-- `settle::course::Plan::awaited` meets its contract. Assumes nothing.
+use borrow.Author.Needs.{needs}
+use Rattle.settle.proofs.Settles.{settles}
+use Rattle.settle.proofs.course.Plan.awaited.Statement.{statement}
+use Rattle.settle.proofs.course.Plan.awaited.Tie as tie
+
+pub awaited-spec : {M : Type 1} → statement M
+awaited-spec =
+    tie.close
+    (tie.spec
+    (λ c κs. search needs)
+    (λ c κs. search needs)
+    (λ c κs. search needs)
+    (λ c κs. search needs)
+    (λ c. search settles depth 8)
+    (λ c κs. search needs)
+    (λ c. search settles depth 8))

@@ -1,0 +1,12 @@
+-- `settle::course::Plan::ends` meets its contract. Assumes nothing.
+use borrow.Author.Needs.{needs}
+use Rattle.settle.specs.Settle.{endsBy}
+use Rattle.settle.proofs.course.Plan.ends.Statement.{statement}
+use Rattle.settle.proofs.course.Plan.ends.Tie as tie
+
+pub ends-spec : {M : Type 1} → statement M
+unfolding endsBy
+ends-spec =
+    tie.close
+    (tie.spec
+    (λ c. search needs))

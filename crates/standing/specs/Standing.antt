@@ -1,0 +1,92 @@
+-- What stands in a session, and the questions about it. Assumes nothing: these are definitions.
+use Prim.Native.Nat.{ℕ}
+use mathlib.Core.Bool.{Bool, true, false, _&&_}
+use lib.Dec.{leb, eqb}
+use Rattle.values.specs.Points.{noPoint}
+use Rattle.rights.specs.declared.Granted.{Granted}
+use Rattle.rights.specs.declared.Granted.the-variants.{These, NoRights}
+use Rattle.event.specs.Run.{isPin, isCan, isPuk}
+use Rattle.standing.specs.declared.Opened.{Opened}
+use Rattle.standing.specs.declared.Opened.the-variants.{Nobody, By}
+use Rattle.standing.specs.declared.Reach.{Reach}
+use Rattle.standing.specs.declared.Reach.the-variants.{Empty, ToDv, ToTerminal}
+use Rattle.standing.specs.declared.Chain.{Chain}
+use Rattle.standing.specs.declared.Selected.{Selected}
+use Rattle.standing.specs.declared.Selected.the-variants.{NoIssuer, Of}
+use Rattle.standing.specs.declared.Stage.{Stage}
+use Rattle.standing.specs.declared.Stage.the-variants.{Run, Idle, Announced as AtAnnounced, Challenged as AtChallenged, Proven as AtProven, ChipKeyChosen as AtChosen, Authenticated as AtAuthenticated}
+
+-- ---- who opened it: "A session is open when, and only when, a password opened it"
+
+abbrev pub isOpen : Opened → Bool
+isOpen Nobody = false
+isOpen (By p) = true
+
+abbrev pub openedByPin : Opened → Bool
+openedByPin Nobody = false
+openedByPin (By p) = isPin p
+
+abbrev pub openedByCan : Opened → Bool
+openedByCan Nobody = false
+openedByCan (By p) = isCan p
+
+abbrev pub openedByPuk : Opened → Bool
+openedByPuk Nobody = false
+openedByPuk (By p) = isPuk p
+
+-- ---- what stands in it
+
+abbrev pub hasRights : Granted → Bool
+hasRights (These r) = true
+hasRights NoRights = false
+
+abbrev pub reachesDv : Reach → Bool
+reachesDv Empty = false
+reachesDv (ToDv r) = true
+reachesDv (ToTerminal r) = true
+
+abbrev pub reachesTerminal : Reach → Bool
+reachesTerminal Empty = false
+reachesTerminal (ToDv r) = false
+reachesTerminal (ToTerminal r) = true
+
+abbrev pub hasDv : Chain → Bool
+hasDv c = reachesDv (c .reach)
+
+abbrev pub hasTerminal : Chain → Bool
+hasTerminal c = reachesTerminal (c .reach)
+
+abbrev pub isSelected : Selected → Bool
+isSelected NoIssuer = false
+isSelected (Of i) = true
+
+unfoldable pub noChain : Chain
+noChain = record { reach = Empty; dv = noPoint; terminal = noPoint }
+
+-- ---- the stage
+
+-- "one stage: no run, password run with its step, announced, challenged, terminal proven, chip key chosen, authenticated":
+-- how far a session has come, a run apart from the others
+abbrev pub rank : Stage → ℕ
+rank (Run c p) = 0
+rank Idle = 1
+rank AtAnnounced = 2
+rank AtChallenged = 3
+rank AtProven = 4
+rank AtChosen = 5
+rank AtAuthenticated = 6
+
+-- no run is open
+abbrev pub noRun : Stage → Bool
+noRun s = leb 1 (rank s)
+
+-- no run is open, and the terminal is not yet proven
+abbrev pub unproven : Stage → Bool
+unproven s = noRun s && leb (rank s) 3
+
+-- from announced on
+abbrev pub told : Stage → Bool
+told s = leb 2 (rank s)
+
+abbrev pub isAuthenticated : Stage → Bool
+isAuthenticated s = eqb (rank s) 6

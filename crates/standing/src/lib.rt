@@ -1,0 +1,157 @@
+// What stands in a session: who opened it, its chain, the selection, the stage; and the questions about each.
+ghost use mathlib.Core.Path.{_≡_};
+ghost use Rattle.standing.specs.Standing.{isOpen, openedByPin, openedByCan, openedByPuk, hasRights, hasDv, hasTerminal, isSelected, noChain, rank};
+use event::happening::Issuer;
+use event::run::Choice;
+use event::run::Password;
+use event::run::Step;
+use rights::Granted;
+use rights::Rights;
+use values::point::Point;
+
+// Which password opened the session.
+pub enum Opened {
+    Nobody,
+    By(Password),
+}
+
+// How far a chain goes. A DV stands with the rights of the trust point that it was accepted under, a terminal only on its DV.
+pub enum Reach {
+    Empty,
+    ToDv(Rights),
+    ToTerminal(Rights),
+}
+
+pub struct Chain {
+    pub reach: Reach,
+    pub dv: Point,
+    pub terminal: Point,
+}
+
+pub enum Selected {
+    NoIssuer,
+    Of(Issuer),
+}
+
+// How far a session has come.
+pub enum Stage {
+    Idle,
+    Run(Choice, Step),
+    Announced,
+    Challenged,
+    Proven,
+    ChipKeyChosen,
+    Authenticated,
+}
+
+impl Opened {
+    pub fn is_open(self) -> bool
+        ensures { λ r. ⌜ r ≡ isOpen self ⌝ }
+    {
+        match self {
+            Opened::Nobody => false,
+            Opened::By(_) => true,
+        }
+    }
+
+    pub fn by_pin(self) -> bool
+        ensures { λ r. ⌜ r ≡ openedByPin self ⌝ }
+    {
+        match self {
+            Opened::Nobody => false,
+            Opened::By(p) => p.is_pin(),
+        }
+    }
+
+    pub fn by_can(self) -> bool
+        ensures { λ r. ⌜ r ≡ openedByCan self ⌝ }
+    {
+        match self {
+            Opened::Nobody => false,
+            Opened::By(p) => p.is_can(),
+        }
+    }
+
+    pub fn by_puk(self) -> bool
+        ensures { λ r. ⌜ r ≡ openedByPuk self ⌝ }
+    {
+        match self {
+            Opened::Nobody => false,
+            Opened::By(p) => p.is_puk(),
+        }
+    }
+}
+
+impl Chain {
+    pub fn none() -> Self
+        ensures { λ r. ⌜ r ≡ noChain ⌝ }
+    {
+        let dv = Point::none();
+        let terminal = Point::none();
+        Chain {
+            reach: Reach::Empty,
+            dv: dv,
+            terminal: terminal,
+        }
+    }
+
+    pub fn has_dv(self) -> bool
+        ensures { λ r. ⌜ r ≡ hasDv self ⌝ }
+    {
+        let reach = self.reach;
+        match reach {
+            Reach::Empty => false,
+            Reach::ToDv(_) => true,
+            Reach::ToTerminal(_) => true,
+        }
+    }
+
+    pub fn has_terminal(self) -> bool
+        ensures { λ r. ⌜ r ≡ hasTerminal self ⌝ }
+    {
+        let reach = self.reach;
+        match reach {
+            Reach::Empty => false,
+            Reach::ToDv(_) => false,
+            Reach::ToTerminal(_) => true,
+        }
+    }
+}
+
+// Whether rights stand there.
+pub fn has_rights(granted: Granted) -> bool
+    ensures { λ r. ⌜ r ≡ hasRights granted ⌝ }
+{
+    match granted {
+        Granted::These(_) => true,
+        Granted::NoRights => false,
+    }
+}
+
+impl Selected {
+    pub fn stands(self) -> bool
+        ensures { λ r. ⌜ r ≡ isSelected self ⌝ }
+    {
+        match self {
+            Selected::NoIssuer => false,
+            Selected::Of(_) => true,
+        }
+    }
+}
+
+impl Stage {
+    // How far a session has come; a run stands apart.
+    pub fn rank(self) -> u8
+        ensures { λ r. ⌜ r ≡ rank self ⌝ }
+    {
+        match self {
+            Stage::Run(_, _) => 0,
+            Stage::Idle => 1,
+            Stage::Announced => 2,
+            Stage::Challenged => 3,
+            Stage::Proven => 4,
+            Stage::ChipKeyChosen => 5,
+            Stage::Authenticated => 6,
+        }
+    }
+}

@@ -1,0 +1,4 @@
+pub mod Strings
+pub mod Contents
+pub mod Kept
+pub mod Pinned

@@ -1,0 +1,13 @@
+-- `strings::name::Name::of` meets its contract. Assumes nothing.
+use borrow.Author.Needs.{needs}
+use Rattle.strings.proofs.Contents.{contents}
+use Rattle.strings.proofs.name.Name.of.Statement.{statement}
+use Rattle.strings.proofs.name.Name.of.Tie as tie
+
+pub of-spec : {M : Type 1} → statement M
+of-spec =
+    tie.close
+    (tie.spec
+    (λ c. search needs)
+    (λ c κs. search needs)
+    (λ c. search contents))
