@@ -5,8 +5,8 @@ ghost use Rattle.reply.specs.Lay.{Written};
 ghost use Rattle.answer.specs.Answer.{stepTag, refusedLayout, layoutOf, replyTo};
 use event::happening::Event;
 use event::happening::Refusal;
-use event::run::Step;
 use reply::Layout;
+use run::Step;
 use trust::Points;
 
 fn step_tag(step: Step) -> u8

@@ -14,10 +14,10 @@ use Rattle.strings.specs.declared.key.Key.{Key}
 use Rattle.values.specs.declared.point.Point.{Point}
 use Rattle.rights.specs.declared.Rights.{Rights}
 use Rattle.rights.specs.declared.Role.{Role}
-use Rattle.event.specs.declared.run.Choice.{Choice}
-use Rattle.event.specs.declared.run.Password.{Password}
-use Rattle.event.specs.declared.run.Step.{Step}
-use Rattle.event.specs.Run.{passwordOf, isPin, isPuk, stepNumber}
+use Rattle.run.specs.declared.Choice.{Choice}
+use Rattle.run.specs.declared.Password.{Password}
+use Rattle.run.specs.declared.Step.{Step}
+use Rattle.run.specs.Run.{passwordOf, isPin, isPuk, stepNumber}
 use Rattle.event.specs.declared.happening.Refusal.the-variants.{Lacking, Data, NotFound}
 use Rattle.event.specs.declared.happening.Issuer.{Issuer}
 use Rattle.event.specs.declared.happening.Issuer.the-variants.{Dv}

@@ -6,7 +6,7 @@ use Rattle.values.specs.declared.day.Day.{Day}
 use Rattle.strings.specs.declared.key.Key.{Key}
 use Rattle.strings.specs.declared.name.Name.{Name}
 use Rattle.values.specs.declared.point.Point.{Point}
-use Rattle.event.specs.declared.run.Choice.{Choice}
+use Rattle.run.specs.declared.Choice.{Choice}
 use Rattle.event.specs.declared.happening.Event.{Event}
 use Rattle.settle.specs.declared.course.Plan.{Plan}
 use Rattle.fields.specs.declared.asked.Content.{Content}

@@ -7,9 +7,9 @@ use Rattle.values.specs.Points.{noPoint}
 use Rattle.rights.specs.Rights.{hasRight, readsGroup}
 use Rattle.strings.specs.declared.name.Name.{Name}
 use Rattle.strings.specs.declared.key.Key.{Key}
-use Rattle.event.specs.declared.run.Choice.{Choice}
-use Rattle.event.specs.declared.run.Step.{Step}
-use Rattle.event.specs.Run.{passwordOf, isPin, isPuk, stepNumber}
+use Rattle.run.specs.declared.Choice.{Choice}
+use Rattle.run.specs.declared.Step.{Step}
+use Rattle.run.specs.Run.{passwordOf, isPin, isPuk, stepNumber}
 use Rattle.event.specs.declared.happening.Refusal.the-variants.{Lacking, Moment, Data, NotFound}
 use Rattle.event.specs.declared.happening.Event.{Event}
 use Rattle.event.specs.declared.happening.Event.the-variants.{Refused, Announced as IsAnnounced, Authenticated as IsAuthenticated, ChipLost, ReadAllowed, PinChanged, NotPassed}

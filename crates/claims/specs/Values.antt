@@ -15,10 +15,10 @@ use Rattle.strings.specs.declared.name.Name.{Name}
 use Rattle.values.specs.declared.point.Point.{Point}
 use Rattle.rights.specs.declared.Rights.{Rights}
 use Rattle.rights.specs.declared.Granted.the-variants.{These, NoRights}
-use Rattle.event.specs.declared.run.Password.{Password}
-use Rattle.event.specs.declared.run.Password.the-variants.{Can, Pin}
-use Rattle.event.specs.declared.run.Choice.the-variants.{Pin as ChosenPin}
-use Rattle.event.specs.declared.run.Step.the-variants.{Confirm}
+use Rattle.run.specs.declared.Password.{Password}
+use Rattle.run.specs.declared.Password.the-variants.{Can, Pin}
+use Rattle.run.specs.declared.Choice.the-variants.{Pin as ChosenPin}
+use Rattle.run.specs.declared.Step.the-variants.{Confirm}
 use Rattle.event.specs.declared.happening.Issuer.{Issuer}
 use Rattle.event.specs.declared.happening.Issuer.the-variants.{Newest, Dv}
 use Rattle.settle.specs.declared.course.Note.the-variants.{Plain, Protected}

@@ -1,45 +1,10 @@
 -- Two permitted outcomes of each public function are equal. Assumes nothing.
-use Prim.Native.Nat.{ℕ}
-use mathlib.Core.Bool.{Bool}
 use Rattle.laws.proofs.Pinned.{Pinned, pinned}
-use Rattle.rights.specs.declared.Granted.{Granted}
 use Rattle.values.specs.declared.word.Word.{Word}
-use Rattle.event.specs.Run.{passwordOf, rightsNamed, isPin, isCan, isPuk, stepNumber, isLast, nextStep}
 use Rattle.event.specs.Event.{refusalWord, lossWord, wordOf}
-use Rattle.event.specs.declared.run.Password.{Password}
-use Rattle.event.specs.declared.run.Choice.{Choice}
-use Rattle.event.specs.declared.run.Step.{Step}
 use Rattle.event.specs.declared.happening.Refusal.{Refusal}
 use Rattle.event.specs.declared.happening.Loss.{Loss}
 use Rattle.event.specs.declared.happening.Event.{Event}
-
--- ---- run
-
-pub is-pin-pinned : (p : Password) → Pinned Bool (isPin p)
-is-pin-pinned p = pinned _
-
-pub is-can-pinned : (p : Password) → Pinned Bool (isCan p)
-is-can-pinned p = pinned _
-
-pub is-puk-pinned : (p : Password) → Pinned Bool (isPuk p)
-is-puk-pinned p = pinned _
-
-pub password-pinned : (c : Choice) → Pinned Password (passwordOf c)
-password-pinned c = pinned _
-
-pub rights-pinned : (c : Choice) → Pinned Granted (rightsNamed c)
-rights-pinned c = pinned _
-
-pub step-number-pinned : (p : Step) → Pinned ℕ (stepNumber p)
-step-number-pinned p = pinned _
-
-pub is-last-pinned : (p : Step) → Pinned Bool (isLast p)
-is-last-pinned p = pinned _
-
-pub next-pinned : (p : Step) → Pinned Step (nextStep p)
-next-pinned p = pinned _
-
--- ---- happening
 
 pub refusal-word-pinned : (r : Refusal) → Pinned Word (refusalWord r)
 refusal-word-pinned r = pinned _

@@ -4,17 +4,13 @@ use Prim.Native.Nat.{ℕ}
 use mathlib.Core.Bool.{Bool, true, false, _&&_}
 use mathlib.Core.Path.{_≡_, sym, ap, _∙_}
 use lib.Dec.{ltb}
-use Rattle.rights.specs.declared.Granted.{Granted}
 use Rattle.values.specs.declared.word.Word.{Word}
 use Rattle.values.specs.declared.word.Word.the-variants.{Done, Tries}
-use Rattle.event.specs.declared.run.Choice.{Choice}
-use Rattle.event.specs.declared.run.Password.{Password}
+use Rattle.run.specs.declared.Choice.{Choice}
+use Rattle.run.specs.declared.Password.{Password}
 use Rattle.event.specs.declared.happening.Event.{Event}
-use Rattle.event.specs.Run.{passwordOf, rightsNamed, isPin}
+use Rattle.run.specs.Run.{passwordOf, isPin}
 use Rattle.event.specs.Event.{chosenWord, wordOf}
-
-pub rights-arm : (x d : Choice) (r : Granted) → x ≡ d → r ≡ rightsNamed d → r ≡ rightsNamed x
-rights-arm x d r e z = z ∙ ap rightsNamed (sym e)
 
 pub word-arm : (x d : Event) (r : Word) → x ≡ d → r ≡ wordOf d → r ≡ wordOf x
 word-arm x d r e z = z ∙ ap wordOf (sym e)
@@ -28,4 +24,4 @@ module _ (c : Choice) (left : ℕ) (w : Password) (p : Bool) (e : w ≡ password
   pub chosen-many : p && ltb left 3 ≡ false → Done ≡ chosenWord c left
   chosen-many h = rw (← e, ← f, h)
 
-pub ruleset small = (rights-arm, word-arm, chosen-few, chosen-many, needs)
+pub ruleset small = (word-arm, chosen-few, chosen-many, needs)

@@ -1,9 +1,9 @@
 // Events, and the status word of each.
 ghost use mathlib.Core.Path.{_≡_};
 ghost use Rattle.event.specs.Event.{refusalWord, lossWord, chosenWord, wordOf};
-use super::run::Choice;
-use super::run::Step;
 use rights::Rights;
+use run::Choice;
+use run::Step;
 use values::word::Word;
 
 // Why a command changes nothing.

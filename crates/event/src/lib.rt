@@ -1,3 +1,2 @@
-// What can happen: a password run, events, and the status word of each.
+// What can happen: events, and the status word of each.
 pub mod happening;
-pub mod run;

@@ -24,9 +24,9 @@ use Rattle.values.specs.declared.point.Point.{Point}
 use Rattle.strings.specs.declared.key.Key.{Key}
 use Rattle.rights.specs.declared.Rights.{Rights}
 use Rattle.rights.specs.declared.Granted.the-variants.{These, NoRights}
-use Rattle.event.specs.Run.{rightsNamed}
-use Rattle.event.specs.declared.run.Choice.{Choice}
-use Rattle.event.specs.declared.run.Choice.the-variants.{Mrz, Can, CanFor, Pin, PinFor, Puk}
+use Rattle.run.specs.Run.{rightsNamed}
+use Rattle.run.specs.declared.Choice.{Choice}
+use Rattle.run.specs.declared.Choice.the-variants.{Mrz, Can, CanFor, Pin, PinFor, Puk}
 use Rattle.certificate.specs.Body.{signedOf, isSignature}
 use Rattle.certificate.specs.declared.Answer.{Answer}
 use Rattle.certificate.specs.declared.Answer.the-variants.{Read as WasRead, Unread}
@@ -46,7 +46,7 @@ use Rattle.fields.specs.Announce as announce
 use Rattle.fields.specs.Chip.{chip, referenceIn, chipOf}
 use Rattle.fields.specs.Plain.{proofOf, pinOf}
 use Rattle.fields.specs.Asked.{dataOf, refusing, asking, askedOf, askedBy}
-use Rattle.event.specs.declared.run.Step.the-variants.{Nonce, Map, Agree, Confirm}
+use Rattle.run.specs.declared.Step.the-variants.{Nonce, Map, Agree, Confirm}
 use Rattle.fields.specs.declared.asked.Content.{Content}
 use Rattle.fields.specs.declared.asked.Content.the-variants.{Step, Chip}
 use Rattle.fields.specs.declared.asked.Ask.{Ask}

@@ -6,7 +6,7 @@ use mathlib.Core.Bool.{true, cond}
 use lib.ListN.{length}
 use lib.Dec.{eqb}
 use Rattle.strings.specs.Bytes.{longest}
-use Rattle.event.specs.declared.run.Step.the-variants.{Nonce, Map, Agree, Confirm}
+use Rattle.run.specs.declared.Step.the-variants.{Nonce, Map, Agree, Confirm}
 use Rattle.fields.specs.Taking.{reading, lastly, any, holds}
 use Rattle.fields.specs.declared.asked.Content.the-variants.{Step, Chip}
 use Rattle.fields.specs.declared.asked.Ask.{Ask}

@@ -1,8 +1,8 @@
 // What a command may ask for.
 use command::kind::Kind;
 use event::happening::Refusal;
-use event::run::Choice;
-use event::run::Step;
+use run::Choice;
+use run::Step;
 use strings::key::Key;
 use strings::name::Name;
 use values::point::Point;

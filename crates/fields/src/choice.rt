@@ -7,11 +7,11 @@ use super::asked::Ask;
 use super::taking::identified;
 use super::taking::last;
 use super::taking::sized;
-use event::run::Choice;
 use objects::Found;
 use rights::Granted;
 use rights::Rights;
 use rights::rights_of;
+use run::Choice;
 
 const PACE: [u8; 10] = [4, 0, 0x7F, 0, 7, 2, 2, 4, 2, 2];
 

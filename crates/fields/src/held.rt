@@ -5,8 +5,8 @@ use super::asked::Ask;
 use super::asked::Content;
 use super::taking::holds;
 use super::taking::last;
-use event::run::Step;
 use objects::Found;
+use run::Step;
 use strings::bytes::STRING;
 
 // The bytes of a token that confirms.

@@ -6,10 +6,10 @@ use mathlib.Core.Path.{_≡_, sym, ap, _∙_}
 use Rattle.laws.proofs.Rungs.{rungs}
 use Rattle.rights.specs.declared.Rights.{Rights}
 use Rattle.rights.specs.declared.Role.{Role}
-use Rattle.event.specs.declared.run.Choice.{Choice}
-use Rattle.event.specs.declared.run.Password.{Password}
-use Rattle.event.specs.declared.run.Step.{Step}
-use Rattle.event.specs.Run.{passwordOf, isPin, isLast}
+use Rattle.run.specs.declared.Choice.{Choice}
+use Rattle.run.specs.declared.Password.{Password}
+use Rattle.run.specs.declared.Step.{Step}
+use Rattle.run.specs.Run.{passwordOf, isPin, isLast}
 use Rattle.event.specs.declared.happening.Event.{Event}
 use Rattle.event.specs.declared.happening.Event.the-variants.{StepPassed, Opened, RunClosed, TrialLost}
 use Rattle.order.specs.Order.{passedEvent, trialOf, otherEvent, takenEvent}

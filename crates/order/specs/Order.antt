@@ -6,9 +6,9 @@ use Rattle.rights.specs.Rights.{isTerminal}
 use Rattle.rights.specs.declared.Rights.{Rights}
 use Rattle.rights.specs.declared.Role.{Role}
 use Rattle.rights.specs.declared.Role.the-variants.{Cvca, OfficialDv, OtherDv, Terminal}
-use Rattle.event.specs.declared.run.Choice.{Choice}
-use Rattle.event.specs.declared.run.Step.{Step}
-use Rattle.event.specs.Run.{passwordOf, isPin, isLast}
+use Rattle.run.specs.declared.Choice.{Choice}
+use Rattle.run.specs.declared.Step.{Step}
+use Rattle.run.specs.Run.{passwordOf, isPin, isLast}
 use Rattle.event.specs.declared.happening.Refusal.the-variants.{Lacking, Blocked, Expired, Moment, Data, NotFound}
 use Rattle.event.specs.declared.happening.Issuer.{Issuer}
 use Rattle.event.specs.declared.happening.Issuer.the-variants.{Newest, Previous, Dv}

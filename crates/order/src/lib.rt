@@ -5,10 +5,10 @@ ghost use Prim.Native.Nat.{_-_};
 use event::happening::Event;
 use event::happening::Issuer;
 use event::happening::Refusal;
-use event::run::Choice;
-use event::run::Step;
 use rights::Rights;
 use rights::Role;
+use run::Choice;
+use run::Step;
 use settle::course::Course;
 use settle::course::Job;
 

@@ -18,9 +18,9 @@ use Rattle.values.specs.declared.point.Point.{Point}
 use Rattle.rights.specs.declared.Role.{Role}
 use Rattle.rights.specs.declared.Role.the-variants.{Cvca, OfficialDv, OtherDv, Terminal}
 use Rattle.command.specs.declared.kind.Kind.{Kind}
-use Rattle.event.specs.declared.run.Choice.{Choice}
-use Rattle.event.specs.declared.run.Step.{Step}
-use Rattle.event.specs.Run.{passwordOf, isPin, isPuk, isLast}
+use Rattle.run.specs.declared.Choice.{Choice}
+use Rattle.run.specs.declared.Step.{Step}
+use Rattle.run.specs.Run.{passwordOf, isPin, isPuk, isLast}
 use Rattle.event.specs.declared.happening.Refusal.{Refusal}
 use Rattle.event.specs.declared.happening.Refusal.the-variants.{Lacking, Moment, Data, NotFound, Outside}
 use Rattle.event.specs.declared.happening.Loss.{Loss}

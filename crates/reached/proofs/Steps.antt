@@ -11,10 +11,10 @@ use Rattle.rights.specs.Rights.{roleOf, readsGroup}
 use Rattle.strings.specs.declared.key.Key.{Key}
 use Rattle.strings.specs.declared.name.Name.{Name}
 use Rattle.values.specs.declared.point.Point.{Point}
-use Rattle.event.specs.declared.run.Choice.{Choice}
-use Rattle.event.specs.declared.run.Step.{Step}
-use Rattle.event.specs.declared.run.Step.the-variants.{Confirm}
-use Rattle.event.specs.Run.{passwordOf, isPin, isPuk, isLast}
+use Rattle.run.specs.declared.Choice.{Choice}
+use Rattle.run.specs.declared.Step.{Step}
+use Rattle.run.specs.declared.Step.the-variants.{Confirm}
+use Rattle.run.specs.Run.{passwordOf, isPin, isPuk, isLast}
 use Rattle.event.specs.declared.happening.Refusal.{Refusal}
 use Rattle.event.specs.declared.happening.Event.{Event}
 use Rattle.event.specs.declared.happening.Event.the-variants.{Refused, Lost, Chosen, StepPassed, Opened, RunClosed, TrialLost, Selected, LinkTaken, DvTaken, TerminalTaken, Announced, Challenged, Proven, ProofLost, ChipKeyChosen, Authenticated, ChipLost, ReadAllowed, PinChanged, UnblockedByPuk, UnblockedByRight, Activated, Deactivated, NotPassed}

@@ -20,11 +20,11 @@ use Rattle.rights.specs.declared.Rights.{Rights}
 use Rattle.rights.specs.declared.Role.the-variants.{Cvca, Terminal}
 use Rattle.rights.specs.declared.Granted.{Granted}
 use Rattle.rights.specs.declared.Granted.the-variants.{These, NoRights}
-use Rattle.event.specs.declared.run.Choice.{Choice}
-use Rattle.event.specs.declared.run.Choice.the-variants.{Mrz, Can, CanFor, Pin, PinFor, Puk}
-use Rattle.event.specs.declared.run.Step.{Step}
-use Rattle.event.specs.declared.run.Step.the-variants.{Nonce}
-use Rattle.event.specs.Run.{passwordOf, rightsNamed, isPin, isCan, nextStep}
+use Rattle.run.specs.declared.Choice.{Choice}
+use Rattle.run.specs.declared.Choice.the-variants.{Mrz, Can, CanFor, Pin, PinFor, Puk}
+use Rattle.run.specs.declared.Step.{Step}
+use Rattle.run.specs.declared.Step.the-variants.{Nonce}
+use Rattle.run.specs.Run.{passwordOf, rightsNamed, isPin, isCan, nextStep}
 use Rattle.event.specs.declared.happening.Issuer.{Issuer}
 use Rattle.event.specs.declared.happening.Event.{Event}
 use Rattle.settle.specs.declared.course.Note.{Note}

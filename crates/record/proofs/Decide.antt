@@ -23,7 +23,7 @@ use Rattle.command.specs.Form.{formOf, afterHeader, bodyOf, extendedOf}
 use Rattle.command.specs.Kind.{kindOf}
 use Rattle.command.specs.Shape.{shapeOf, headedOf}
 use Rattle.command.specs.declared.kind.Asked.the-variants.{For}
-use Rattle.event.specs.Run.{isCan}
+use Rattle.run.specs.Run.{isCan}
 use Rattle.event.specs.declared.happening.Event.{Event}
 use Rattle.event.specs.declared.happening.Event.the-variants.{ReadAllowed, Refused, Lost}
 use Rattle.event.specs.declared.happening.Refusal.the-variants.{Moment}

@@ -7,8 +7,8 @@ use Rattle.strings.specs.declared.key.Key.{Key}
 use Rattle.values.specs.declared.point.Point.{Point}
 use Rattle.values.specs.declared.word.Word.{Word}
 use Rattle.values.specs.declared.word.Word.the-variants.{Done, Tries, NotPassed as BadVerdict}
-use Rattle.event.specs.declared.run.Choice.{Choice}
-use Rattle.event.specs.Run.{passwordOf, isPin}
+use Rattle.run.specs.declared.Choice.{Choice}
+use Rattle.run.specs.Run.{passwordOf, isPin}
 use Rattle.event.specs.declared.happening.Refusal.{Refusal}
 use Rattle.event.specs.declared.happening.Refusal.the-variants.{Length, Lacking, Blocked, Expired, Moment, Data, Parameters, NotFound, Instruction, Class, Outside}
 use Rattle.event.specs.declared.happening.Loss.{Loss}

@@ -16,9 +16,9 @@ use Rattle.rights.specs.declared.Role.{Role}
 use Rattle.rights.specs.declared.Role.the-variants.{Cvca, OfficialDv, OtherDv, Terminal}
 use Rattle.values.specs.declared.word.Word.{Word}
 use Rattle.values.specs.declared.word.Word.the-variants.{Done, Tries, NotPassed, Length, Lacking, Blocked, Expired, Moment, Unprotected, Broken, Data, Parameters, NotFound, Instruction, Class, Outside}
-use Rattle.event.specs.declared.run.Password.{Password}
-use Rattle.event.specs.declared.run.Choice.{Choice}
-use Rattle.event.specs.Run.{passwordOf, rightsNamed, isCan}
+use Rattle.run.specs.declared.Password.{Password}
+use Rattle.run.specs.declared.Choice.{Choice}
+use Rattle.run.specs.Run.{passwordOf, rightsNamed, isCan}
 use Rattle.fields.specs.declared.asked.Content.{Content}
 use Rattle.fields.specs.declared.asked.Content.the-variants.{Step, Chip}
 use Rattle.fields.specs.declared.asked.Ask.{Ask}

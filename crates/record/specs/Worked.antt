@@ -8,7 +8,7 @@ use Rattle.values.specs.declared.day.Day.{Day}
 use Rattle.values.specs.declared.point.Point.{Point}
 use Rattle.values.specs.declared.word.Word.{Word}
 use Rattle.values.specs.declared.word.Word.the-variants.{Done, Lacking, Moment, Broken}
-use Rattle.event.specs.declared.run.Step.the-variants.{Nonce, Map, Agree, Confirm}
+use Rattle.run.specs.declared.Step.the-variants.{Nonce, Map, Agree, Confirm}
 use Rattle.settle.specs.declared.course.Job.{Job}
 use Rattle.settle.specs.declared.course.Job.the-variants.{Nothing, Step as StepJob, Certificate, Challenge, Proof, ChipKey}
 use Rattle.settle.specs.declared.course.Note.the-variants.{Plain, Protected}

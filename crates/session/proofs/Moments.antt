@@ -6,9 +6,9 @@ use mathlib.Core.Path.{_≡_}
 use lib.Dec.{leb, eqb}
 use Rattle.command.specs.declared.kind.Kind.{Kind}
 use Rattle.command.specs.declared.kind.Kind.the-variants.{ChoosePassword, General, SelectIssuer, VerifyCertificate, Announce, Challenge, ProveTerminal, ChooseChipKey, Read, ChangePin, Unblock, Activate, Deactivate}
-use Rattle.event.specs.declared.run.Choice.{Choice}
-use Rattle.event.specs.declared.run.Step.{Step}
-use Rattle.event.specs.Run.{isLast}
+use Rattle.run.specs.declared.Choice.{Choice}
+use Rattle.run.specs.declared.Step.{Step}
+use Rattle.run.specs.Run.{isLast}
 use Rattle.standing.specs.declared.Stage.{Stage}
 use Rattle.standing.specs.declared.Stage.the-variants.{Run}
 use Rattle.session.specs.declared.Session.{Session}

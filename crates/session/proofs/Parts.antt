@@ -13,10 +13,10 @@ use Rattle.rights.specs.declared.Rights.{Rights}
 use Rattle.rights.specs.declared.Role.{Role}
 use Rattle.rights.specs.declared.Granted.{Granted}
 use Rattle.rights.specs.declared.Granted.the-variants.{These}
-use Rattle.event.specs.declared.run.Choice.{Choice}
-use Rattle.event.specs.declared.run.Password.{Password}
-use Rattle.event.specs.declared.run.Step.{Step}
-use Rattle.event.specs.Run.{passwordOf, rightsNamed, isPin}
+use Rattle.run.specs.declared.Choice.{Choice}
+use Rattle.run.specs.declared.Password.{Password}
+use Rattle.run.specs.declared.Step.{Step}
+use Rattle.run.specs.Run.{passwordOf, rightsNamed, isPin}
 use Rattle.standing.specs.declared.Opened.{Opened}
 use Rattle.standing.specs.declared.Reach.{Reach}
 use Rattle.standing.specs.declared.Reach.the-variants.{Empty, ToDv, ToTerminal}

@@ -9,9 +9,9 @@ use Rattle.values.specs.declared.point.Point.{Point}
 use Rattle.rights.specs.declared.Rights.{Rights}
 use Rattle.rights.specs.declared.Granted.{Granted}
 use Rattle.rights.specs.declared.Granted.the-variants.{These, NoRights}
-use Rattle.event.specs.declared.run.Choice.{Choice}
-use Rattle.event.specs.declared.run.Step.{Step}
-use Rattle.event.specs.Run.{passwordOf, rightsNamed, isPin}
+use Rattle.run.specs.declared.Choice.{Choice}
+use Rattle.run.specs.declared.Step.{Step}
+use Rattle.run.specs.Run.{passwordOf, rightsNamed, isPin}
 use Rattle.standing.specs.declared.Reach.{Reach}
 use Rattle.standing.specs.declared.Reach.the-variants.{Empty, ToDv, ToTerminal}
 use Rattle.standing.specs.declared.Chain.{Chain}

@@ -2,10 +2,10 @@
 ghost use mathlib.Core.Path.{_≡_};
 ghost use Rattle.session.specs.Fits.{grantedFits, rootFits, dvFits, terminalFits, chainFits, runFits, stageFits, groundFits, contextFits};
 use super::Context;
-use event::run::Choice;
-use event::run::Step;
 use rights::Granted;
 use rights::Rights;
+use run::Choice;
+use run::Step;
 use standing::Chain;
 use standing::Reach;
 use standing::Stage;

@@ -24,7 +24,7 @@ use Rattle.settle.specs.declared.verdict.Verdict.the-variants.{Passed, F
 use Rattle.settle.specs.declared.verdict.Answered.{Answered}
 use Rattle.settle.specs.declared.verdict.Happened.{Happened}
 use Rattle.settle.proofs.verdict.Verdict.{the-type}
-use Rattle.event.specs.Run.{isLast}
+use Rattle.run.specs.Run.{isLast}
 use Rattle.settle.specs.Course.{courseJob}
 use Rattle.settle.specs.Settle.{jobNumber, jobFits, matches, endsBy, passesBy, judgedOf, awaitedOf, courseOf, settleOf}
 

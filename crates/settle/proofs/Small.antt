@@ -10,7 +10,7 @@ use Rattle.values.specs.Points.{noPoint}
 use Rattle.strings.specs.Keys.{noKey}
 use Rattle.values.specs.declared.point.Point.{Point}
 use Rattle.strings.specs.declared.key.Key.{Key}
-use Rattle.event.specs.declared.run.Step.{Step}
+use Rattle.run.specs.declared.Step.{Step}
 use Rattle.event.specs.declared.happening.Event.{Event}
 use Rattle.settle.specs.declared.course.Note.{Note}
 use Rattle.settle.specs.declared.course.Guard.{Guard}
@@ -20,7 +20,7 @@ use Rattle.settle.specs.declared.course.Course.{Course}
 use Rattle.settle.specs.declared.course.Course.the-variants.{Settled, Awaits}
 use Rattle.settle.specs.declared.course.Plan.{Plan}
 use Rattle.settle.specs.declared.verdict.Happened.{Happened}
-use Rattle.event.specs.Run.{isLast}
+use Rattle.run.specs.Run.{isLast}
 use Rattle.settle.specs.Course.{settledBy, awaitsBy, guardOf, courseJob}
 use Rattle.settle.specs.Settle.{jobFits, jobNumber, matches, takenIn, passesBy}
 

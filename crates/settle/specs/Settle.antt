@@ -19,7 +19,7 @@ use Rattle.settle.specs.declared.verdict.Verdict.{Verdict}
 use Rattle.settle.specs.declared.verdict.Verdict.the-variants.{Passed, Failed, Missing}
 use Rattle.settle.specs.declared.verdict.Answered.{Answered}
 use Rattle.settle.specs.declared.verdict.Happened.{Happened}
-use Rattle.event.specs.Run.{stepNumber, isLast}
+use Rattle.run.specs.Run.{stepNumber, isLast}
 
 -- the nine jobs; none is none of them
 abbrev pub jobNumber : Job → ℕ

@@ -3,7 +3,7 @@ ghost use mathlib.Core.Path.{_≡_};
 ghost use Rattle.settle.specs.Course.{settledBy, awaitsBy, guardOf, courseJob};
 use event::happening::Event;
 use event::happening::Loss;
-use event::run::Step;
+use run::Step;
 use strings::key::Key;
 use values::point::Point;
 

@@ -5,7 +5,7 @@ use lib.Dec.{leb, eqb}
 use Rattle.values.specs.Points.{noPoint}
 use Rattle.rights.specs.declared.Granted.{Granted}
 use Rattle.rights.specs.declared.Granted.the-variants.{These, NoRights}
-use Rattle.event.specs.Run.{isPin, isCan, isPuk}
+use Rattle.run.specs.Run.{isPin, isCan, isPuk}
 use Rattle.standing.specs.declared.Opened.{Opened}
 use Rattle.standing.specs.declared.Opened.the-variants.{Nobody, By}
 use Rattle.standing.specs.declared.Reach.{Reach}

@@ -2,11 +2,11 @@
 ghost use mathlib.Core.Path.{_≡_};
 ghost use Rattle.standing.specs.Standing.{isOpen, openedByPin, openedByCan, openedByPuk, hasRights, hasDv, hasTerminal, isSelected, noChain, rank};
 use event::happening::Issuer;
-use event::run::Choice;
-use event::run::Password;
-use event::run::Step;
 use rights::Granted;
 use rights::Rights;
+use run::Choice;
+use run::Password;
+use run::Step;
 use values::point::Point;
 
 // Which password opened the session.

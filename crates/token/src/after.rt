@@ -4,10 +4,10 @@ ghost use Rattle.token.specs.After.{choiceTaken, stepPassed, opened, run
 use super::state::Token;
 use event::happening::Event;
 use event::happening::Issuer;
-use event::run::Choice;
-use event::run::Step;
 use rights::Granted;
 use rights::Rights;
+use run::Choice;
+use run::Step;
 use session::Session;
 use settle::verdict::Happened;
 use standing::Chain;

@@ -1,8 +1,8 @@
 // A token to talk to, and runs of its passwords that are not written.
 use super::talk::passed;
 use super::talk::quietly;
-use event::run::Step;
 use rights::Rights;
+use run::Step;
 use settle::course::Job;
 use settle::course::Note;
 use strings::name::Name;

@@ -21,7 +21,7 @@ use super::talk::failed;
 use super::talk::keeps;
 use super::talk::passed;
 use super::talk::says;
-use event::run::Step;
+use run::Step;
 use settle::course::Job;
 use settle::course::Note;
 use token::state::Made;

@@ -10,7 +10,7 @@ use super::show::heading;
 use super::talk::asks;
 use super::talk::passed;
 use super::talk::says;
-use event::run::Step;
+use run::Step;
 use settle::course::Job;
 use settle::course::Note;
 use token::state::Token;

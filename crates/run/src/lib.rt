@@ -1,6 +1,6 @@
 // A password run: the choice that opened it, and its step.
 ghost use mathlib.Core.Path.{_≡_};
-ghost use Rattle.event.specs.Run.{passwordOf, rightsNamed, isPin, isCan, isPuk, stepNumber, isLast, nextStep};
+ghost use Rattle.run.specs.Run.{passwordOf, rightsNamed, isPin, isCan, isPuk, stepNumber, isLast, nextStep};
 use rights::Granted;
 use rights::Rights;
 

@@ -3,12 +3,12 @@ use Prim.Native.Nat.{ℕ}
 use mathlib.Core.Bool.{Bool, true, false}
 use Rattle.rights.specs.declared.Granted.{Granted}
 use Rattle.rights.specs.declared.Granted.the-variants.{These, NoRights}
-use Rattle.event.specs.declared.run.Password.{Password}
-use Rattle.event.specs.declared.run.Password.the-variants.{Mrz, Can, Pin, Puk}
-use Rattle.event.specs.declared.run.Choice.{Choice}
-use Rattle.event.specs.declared.run.Choice.the-variants.{Mrz as ChooseMrz, Can as ChooseCan, CanFor, Pin as ChoosePin, PinFor, Puk as ChoosePuk}
-use Rattle.event.specs.declared.run.Step.{Step}
-use Rattle.event.specs.declared.run.Step.the-variants.{Nonce, Map, Agree, Confirm}
+use Rattle.run.specs.declared.Password.{Password}
+use Rattle.run.specs.declared.Password.the-variants.{Mrz, Can, Pin, Puk}
+use Rattle.run.specs.declared.Choice.{Choice}
+use Rattle.run.specs.declared.Choice.the-variants.{Mrz as ChooseMrz, Can as ChooseCan, CanFor, Pin as ChoosePin, PinFor, Puk as ChoosePuk}
+use Rattle.run.specs.declared.Step.{Step}
+use Rattle.run.specs.declared.Step.the-variants.{Nonce, Map, Agree, Confirm}
 
 abbrev pub isPin : Password → Bool
 isPin Mrz = false

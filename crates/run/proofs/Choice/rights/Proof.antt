@@ -1,8 +1,8 @@
--- `event::run::Choice::rights` meets its contract. Assumes nothing.
+-- `run::Choice::rights` meets its contract. Assumes nothing.
 use borrow.Author.Needs.{needs}
-use Rattle.event.proofs.Small.{small}
-use Rattle.event.proofs.run.Choice.rights.Statement.{statement}
-use Rattle.event.proofs.run.Choice.rights.Tie as tie
+use Rattle.run.proofs.Small.{rights-arm}
+use Rattle.run.proofs.Choice.rights.Statement.{statement}
+use Rattle.run.proofs.Choice.rights.Tie as tie
 
 pub rights-spec : {M : Type 1} → statement M
 rights-spec =
@@ -16,7 +16,7 @@ rights-spec =
     (λ c. search needs)
     (λ c. search needs)
     (λ c. search needs)
-    (λ c. search small)
+    (λ c. search rights-arm)
     (λ c. search needs)
-    (λ c. search small)
+    (λ c. search rights-arm)
     (λ c. search needs))
