@@ -7,10 +7,11 @@ use Rattle.rights.specs.declared.Rights.{Rights}
 use Rattle.rights.specs.declared.Granted.{Granted}
 use Rattle.event.specs.declared.happening.Issuer.{Issuer}
 use Rattle.command.specs.declared.kind.Kind.{Kind}
-use Rattle.session.specs.Session.{noSession, bareSession, atStage, announcedWith, chainedTo, selecting}
+use Rattle.session.specs.Session.{noSession, bareSession, rechosen, atStage, announcedWith, chainedTo, selecting}
 use Rattle.session.specs.Moment.{momentOf}
 use Rattle.session.specs.Fits.{grantedFits, contextFits}
 use Rattle.session.specs.Authorization.{authorization}
+use Rattle.run.specs.declared.Choice.{Choice}
 use Rattle.standing.specs.declared.Opened.{Opened}
 use Rattle.standing.specs.declared.Chain.{Chain}
 use Rattle.standing.specs.declared.Stage.{Stage}
@@ -24,6 +25,9 @@ bare-pinned o g s = pinned _
 
 pub none-pinned : Pinned Session noSession
 none-pinned = pinned _
+
+pub rechosen-pinned : (z : Session) (c : Choice) → Pinned Session (rechosen z c)
+rechosen-pinned z c = pinned _
 
 pub at-pinned : (z : Session) (s : Stage) → Pinned Session (atStage z s)
 at-pinned z s = pinned _

@@ -5,12 +5,14 @@ use Rattle.strings.specs.declared.key.Key.{Key}
 use Rattle.rights.specs.declared.Granted.{Granted}
 use Rattle.rights.specs.declared.Granted.the-variants.{NoRights}
 use Rattle.event.specs.declared.happening.Issuer.{Issuer}
+use Rattle.run.specs.declared.Choice.{Choice}
+use Rattle.run.specs.declared.Step.the-variants.{Nonce}
 use Rattle.standing.specs.declared.Opened.{Opened}
 use Rattle.standing.specs.declared.Opened.the-variants.{Nobody}
 use Rattle.standing.specs.declared.Chain.{Chain}
 use Rattle.standing.specs.declared.Selected.the-variants.{NoIssuer, Of}
 use Rattle.standing.specs.declared.Stage.{Stage}
-use Rattle.standing.specs.declared.Stage.the-variants.{Idle, Announced}
+use Rattle.standing.specs.declared.Stage.the-variants.{Idle, Run, Announced}
 use Rattle.standing.specs.Standing.{noChain}
 use Rattle.session.specs.declared.Session.{Session}
 
@@ -20,6 +22,10 @@ bareSession o g s = record { context = record { opened = o; confirmed = g; chain
 
 abbrev pub noSession : Session
 noSession = bareSession Nobody NoRights Idle
+
+-- "opens a run and drops confirmed rights, chain, selection and stage, but not which password opened the session"
+abbrev pub rechosen : Session → Choice → Session
+rechosen z c = bareSession (z .context .opened) NoRights (Run c Nonce)
 
 abbrev pub atStage : Session → Stage → Session
 atStage z s =

@@ -1,8 +1,10 @@
 // A session: who opened it, what was confirmed, its chain, how far it has come.
 ghost use mathlib.Core.Path.{_≡_};
-ghost use Rattle.session.specs.Session.{noSession, bareSession, atStage, announcedWith, chainedTo, selecting};
+ghost use Rattle.session.specs.Session.{noSession, bareSession, rechosen, atStage, announcedWith, chainedTo, selecting};
 use event::happening::Issuer;
 use rights::Granted;
+use run::Choice;
+use run::Step;
 use standing::Chain;
 use standing::Opened;
 use standing::Selected;
@@ -50,6 +52,15 @@ impl Session {
         ensures { λ r. ⌜ r ≡ noSession ⌝ }
     {
         Session::bare(Opened::Nobody, Granted::NoRights, Stage::Idle)
+    }
+
+    // A choice is taken: a run opens; rights, chain, selection and stage fall; the opener stays.
+    pub fn rechosen(self, choice: Choice) -> Self
+        ensures { λ r. ⌜ r ≡ rechosen self choice ⌝ }
+    {
+        let c = self.context;
+        let o = c.opened;
+        Session::bare(o, Granted::NoRights, Stage::Run(choice, Step::Nonce))
     }
 
     // The same session at another stage.

@@ -4,19 +4,16 @@ use Prim.Native.Nat.{ℕ, _-_}
 use mathlib.Core.Bool.{Bool, true, false}
 use mathlib.Core.Path.{_≡_, sym, ap, _∙_}
 use Rattle.values.specs.Days.{later}
-use Rattle.rights.specs.Rights.{roleOf, isOfficial}
-use Rattle.values.specs.Points.{noPoint}
+use Rattle.values.specs.Points.{noPoint, todayAfter}
 use Rattle.values.specs.declared.day.Day.{Day}
 use Rattle.strings.specs.declared.key.Key.{Key}
 use Rattle.values.specs.declared.point.Point.{Point}
 use Rattle.rights.specs.declared.Rights.{Rights}
-use Rattle.rights.specs.declared.Role.{Role}
 use Rattle.rights.specs.declared.Granted.{Granted}
 use Rattle.rights.specs.declared.Granted.the-variants.{NoRights}
 use Rattle.run.specs.declared.Choice.{Choice}
 use Rattle.run.specs.declared.Password.{Password}
 use Rattle.run.specs.declared.Step.{Step}
-use Rattle.run.specs.declared.Step.the-variants.{Nonce}
 use Rattle.run.specs.Run.{passwordOf, rightsNamed, nextStep}
 use Rattle.event.specs.declared.happening.Issuer.{Issuer}
 use Rattle.event.specs.declared.happening.Event.{Event}
@@ -30,23 +27,16 @@ use Rattle.standing.specs.declared.Stage.{Stage}
 use Rattle.standing.specs.declared.Stage.the-variants.{Idle, Run}
 use Rattle.session.specs.declared.Session.{Session}
 use Rattle.standing.specs.Standing.{noChain}
-use Rattle.session.specs.Session.{bareSession, atStage, announcedWith, chainedTo, selecting}
+use Rattle.session.specs.Session.{bareSession, rechosen, atStage, announcedWith, chainedTo, selecting}
 use Rattle.token.specs.declared.state.Token.{Token}
 use Rattle.token.specs.State.{tries, withSession, withPin, withPuk, withToday, withPoints}
-use Rattle.token.specs.After.{choiceTaken, staged, stepPassed, triesAfter, opened, runClosed, trialLost, issuerSelected, linkTaken, dvTaken, extended, todayAfter, terminalTaken, announced, unblockedByPuk, afterOf}
+use Rattle.token.specs.After.{choiceTaken, staged, stepPassed, triesAfter, opened, runClosed, trialLost, issuerSelected, linkTaken, dvTaken, extended, terminalTaken, announced, unblockedByPuk, afterOf}
 
 pub extended-arm : (x d r : Reach) → x ≡ d → r ≡ extended d → r ≡ extended x
 extended-arm x d r e z = z ∙ ap extended (sym e)
 
-module _ (dv p : Point) (today : Day) (r : Role) (b : Bool) (e : r ≡ roleOf (dv .rights)) (f : b ≡ isOfficial r) where
-  pub day-moves : (d : Day) → b ≡ true → d ≡ later today (p .first) → d ≡ todayAfter dv p today
-  day-moves d h z = rw (← e, ← f, h) z
-
-  pub day-stays : b ≡ false → today ≡ todayAfter dv p today
-  day-stays h = rw (← e, ← f, h)
-
 module _ (t : Token) where
-  pub choice-is : (c : Choice) (z : Session) → z ≡ bareSession (t .session .context .opened) NoRights (Run c Nonce) → withSession t z ≡ choiceTaken t c
+  pub choice-is : (c : Choice) (z : Session) → z ≡ rechosen (t .session) c → withSession t z ≡ choiceTaken t c
   unfolding choiceTaken
   choice-is c z e = rw e
 
@@ -102,4 +92,4 @@ module _ (t : Token) where
   pub after-arm : (p : Point) (k : Key) (x d : Event) (r : Token) → x ≡ d → r ≡ afterOf t d p k → r ≡ afterOf t x p k
   after-arm p k x d r e z = z ∙ ap (λ (y : Event). afterOf t y p k) (sym e)
 
-pub ruleset changes = (extended-arm, day-moves, day-stays, choice-is, staged-is, step-is, opened-is, closed-is, lost-is, selected-is, link-is, dv-is, terminal-is, announced-is, by-puk-is, needs)
+pub ruleset changes = (extended-arm, choice-is, staged-is, step-is, opened-is, closed-is, lost-is, selected-is, link-is, dv-is, terminal-is, announced-is, by-puk-is, needs)

@@ -2,16 +2,13 @@
 use Prim.Native.Nat.{ℕ, _-_}
 use mathlib.Core.Bool.{Bool, true, false, cond}
 use Rattle.values.specs.Days.{later}
-use Rattle.rights.specs.Rights.{roleOf, isOfficial}
-use Rattle.values.specs.Points.{noPoint}
-use Rattle.values.specs.declared.day.Day.{Day}
+use Rattle.values.specs.Points.{noPoint, todayAfter}
 use Rattle.strings.specs.declared.key.Key.{Key}
 use Rattle.values.specs.declared.point.Point.{Point}
 use Rattle.rights.specs.declared.Rights.{Rights}
 use Rattle.rights.specs.declared.Granted.the-variants.{NoRights}
 use Rattle.run.specs.declared.Choice.{Choice}
 use Rattle.run.specs.declared.Step.{Step}
-use Rattle.run.specs.declared.Step.the-variants.{Nonce}
 use Rattle.run.specs.Run.{passwordOf, rightsNamed, isPin, nextStep}
 use Rattle.event.specs.declared.happening.Issuer.{Issuer}
 use Rattle.event.specs.declared.happening.Event.{Event}
@@ -23,13 +20,13 @@ use Rattle.standing.specs.declared.Reach.the-variants.{Empty, ToDv, ToTerminal}
 use Rattle.standing.specs.declared.Stage.{Stage}
 use Rattle.standing.specs.declared.Stage.the-variants.{Idle, Run, Announced, Challenged, Proven, ChipKeyChosen, Authenticated}
 use Rattle.standing.specs.Standing.{noChain}
-use Rattle.session.specs.Session.{bareSession, atStage, announcedWith, chainedTo, selecting}
+use Rattle.session.specs.Session.{bareSession, rechosen, atStage, announcedWith, chainedTo, selecting}
 use Rattle.token.specs.declared.state.Token.{Token}
 use Rattle.token.specs.State.{tries, withSession, withPin, withPuk, withActive, withToday, withPoints, resetOf}
 
 -- "opens a run and drops confirmed rights, chain, selection and stage, but not which password opened the session"
 unfoldable pub choiceTaken : Token → Choice → Token
-choiceTaken t c = withSession t (bareSession (t .session .context .opened) NoRights (Run c Nonce))
+choiceTaken t c = withSession t (rechosen (t .session) c)
 
 unfoldable pub staged : Token → Stage → Token
 staged t s = withSession t (atStage (t .session) s)
@@ -68,10 +65,6 @@ abbrev pub extended : Reach → Reach
 extended Empty = Empty
 extended (ToDv root) = ToTerminal root
 extended (ToTerminal root) = ToTerminal root
-
--- "for links, DVs and terminals of a domestic official DV"
-abbrev pub todayAfter : Point → Point → Day → Day
-todayAfter dv terminal today = cond (isOfficial (roleOf (dv .rights))) (later today (terminal .first)) today
 
 -- "a terminal its terminal"
 unfoldable pub terminalTaken : Token → Point → Token

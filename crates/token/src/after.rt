@@ -1,6 +1,6 @@
 // The only place where the token changes: one arm an event.
 ghost use mathlib.Core.Path.{_≡_};
-ghost use Rattle.token.specs.After.{choiceTaken, stepPassed, opened, runClosed, trialLost, issuerSelected, linkTaken, dvTaken, extended, terminalTaken, announced, staged, unblockedByPuk, unblocked, activated, triesAfter, todayAfter, afterOf};
+ghost use Rattle.token.specs.After.{choiceTaken, stepPassed, opened, runClosed, trialLost, issuerSelected, linkTaken, dvTaken, extended, terminalTaken, announced, staged, unblockedByPuk, unblocked, activated, triesAfter, afterOf};
 use super::state::Token;
 use event::happening::Event;
 use event::happening::Issuer;
@@ -15,8 +15,8 @@ use standing::Opened;
 use standing::Reach;
 use standing::Stage;
 use strings::key::Key;
-use values::day::Day;
 use values::point::Point;
+use values::point::today_after;
 
 // The PIN's tries when a session opens with this choice.
 fn tries_after(choice: Choice, pin: u8) -> u8
@@ -39,27 +39,13 @@ fn extended(reach: Reach) -> Reach
     }
 }
 
-// Only a terminal of a domestic official DV moves the day.
-fn today_after(dv: Point, terminal: Point, today: Day) -> Day
-    ensures { λ r. ⌜ r ≡ todayAfter dv terminal today ⌝ }
-{
-    let rights = dv.rights;
-    let first = terminal.first;
-    if rights.role().is_official() {
-        return today.later(first);
-    }
-    today
-}
-
 impl Token {
     // A choice is taken: a run opens; rights, chain, selection and stage fall; the opener stays.
     fn choice_taken(mut self, choice: Choice) -> Self
         ensures { λ r. ⌜ r ≡ choiceTaken self choice ⌝ }
     {
         let z = self.session;
-        let c = z.context;
-        let o = c.opened;
-        let s = Session::bare(o, Granted::NoRights, Stage::Run(choice, Step::Nonce));
+        let s = z.rechosen(choice);
         self.session = s;
         self
     }

@@ -9,8 +9,9 @@ use lib.ListN.{length}
 use Rattle.strings.specs.Bytes.{allOf, number}
 use Rattle.strings.specs.Names.{noName, nameFits}
 use Rattle.values.specs.Days.{isDate, dayFits, isDay, dated, before, later}
-use Rattle.rights.specs.Rights.{rightsFit}
-use Rattle.values.specs.Points.{noPoint, pointFits}
+use Rattle.rights.specs.Rights.{rightsFit, roleOf, isOfficial}
+use Rattle.rights.specs.declared.Role.{Role}
+use Rattle.values.specs.Points.{noPoint, pointFits, todayAfter}
 use Rattle.values.specs.Words.{number as numberOf}
 use Rattle.strings.specs.declared.bytes.Class.the-variants.{Digit}
 use Rattle.strings.specs.declared.name.Name.{Name}
@@ -59,8 +60,15 @@ pub point-fits : (p : Point) (a b c d t : Bool) → a ≡ nameFits (p .name) →
 unfolding pointFits
 point-fits p a b c d t e f g h i = rw (e, f, g, h, i)
 
+module _ (dv p : Point) (today : Day) (r : Role) (b : Bool) (e : r ≡ roleOf (dv .rights)) (f : b ≡ isOfficial r) where
+  pub day-moves : (d : Day) → b ≡ true → d ≡ later today (p .first) → d ≡ todayAfter dv p today
+  day-moves d h z = rw (← e, ← f, h) z
+
+  pub day-stays : b ≡ false → today ≡ todayAfter dv p today
+  day-stays h = rw (← e, ← f, h)
+
 -- a word's number, arm by arm
 pub number-arm : (x d : Word) (r : ℕ) → x ≡ d → r ≡ numberOf d → r ≡ numberOf x
 number-arm x d r e z = z ∙ ap (λ (y : Word). numberOf y) (sym e)
 
-pub ruleset contents = (not-six, not-digits, day-is, day-not, later-other, later-self, point-none, point-fits, needs)
+pub ruleset contents = (not-six, not-digits, day-is, day-not, later-other, later-self, point-none, point-fits, day-moves, day-stays, needs)

@@ -4,7 +4,7 @@ use mathlib.Core.Bool.{Bool}
 use mathlib.Core.List.{List}
 use Rattle.laws.proofs.Pinned.{Pinned, pinned}
 use Rattle.values.specs.Days.{dated, dayFits, before, later}
-use Rattle.values.specs.Points.{noPoint, pointFits, expired, withKey}
+use Rattle.values.specs.Points.{noPoint, pointFits, expired, withKey, todayAfter}
 use Rattle.values.specs.Words.{number}
 use Rattle.values.specs.declared.day.Day.{Day}
 use Rattle.values.specs.declared.day.Dated.{Dated}
@@ -38,6 +38,9 @@ expired-pinned p today = pinned _
 
 pub with-key-pinned : (p : Point) (key : ℕ) → Pinned Point (withKey p key)
 with-key-pinned p key = pinned _
+
+pub today-after-pinned : (dv terminal : Point) (today : Day) → Pinned Day (todayAfter dv terminal today)
+today-after-pinned dv terminal today = pinned _
 
 -- ---- word
 

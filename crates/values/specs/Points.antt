@@ -1,9 +1,9 @@
 -- A certificate as the token keeps it: "name, 40-bit rights, two dates, key number". Assumes nothing: these are definitions.
 use Prim.Native.Nat.{ℕ}
-use mathlib.Core.Bool.{Bool, not, _&&_}
+use mathlib.Core.Bool.{Bool, cond, not, _&&_}
 use Rattle.strings.specs.Names.{noName, nameFits}
-use Rattle.values.specs.Days.{dayFits, before}
-use Rattle.rights.specs.Rights.{rightsFit}
+use Rattle.values.specs.Days.{dayFits, before, later}
+use Rattle.rights.specs.Rights.{rightsFit, roleOf, isOfficial}
 use Rattle.values.specs.declared.day.Day.{Day}
 use Rattle.values.specs.declared.point.Point.{Point}
 
@@ -20,3 +20,7 @@ expired p today = before (p .last) today
 
 unfoldable pub withKey : Point → ℕ → Point
 withKey p k = record { name = p .name; rights = p .rights; first = p .first; last = p .last; key = k }
+
+-- "Today becomes the first day if later, for .. terminals of a domestic official DV"
+abbrev pub todayAfter : Point → Point → Day → Day
+todayAfter dv terminal today = cond (isOfficial (roleOf (dv .rights))) (later today (terminal .first)) today

@@ -1,6 +1,6 @@
 // A certificate as the token keeps it: a trust point, a DV or a terminal.
 ghost use mathlib.Core.Path.{_≡_};
-ghost use Rattle.values.specs.Points.{noPoint, pointFits, expired, withKey};
+ghost use Rattle.values.specs.Points.{noPoint, pointFits, expired, withKey, todayAfter};
 use super::day::Day;
 use rights::Rights;
 use strings::name::Name;
@@ -58,4 +58,16 @@ impl Point {
         self.key = key;
         self
     }
+}
+
+// The day once a terminal under this DV is taken: only that of a domestic official DV moves it.
+pub fn today_after(dv: Point, terminal: Point, today: Day) -> Day
+    ensures { λ r. ⌜ r ≡ todayAfter dv terminal today ⌝ }
+{
+    let rights = dv.rights;
+    let first = terminal.first;
+    if rights.role().is_official() {
+        return today.later(first);
+    }
+    today
 }
