@@ -2,11 +2,16 @@
 use Prim.Native.Nat.{ℕ}
 use mathlib.Core.List.{List}
 use Rattle.laws.proofs.Pinned.{Pinned, pinned}
-use Rattle.certificate.specs.Body.{unread, bodyOf, signedOf}
+use Rattle.values.specs.declared.word.Word.{Word}
+use Rattle.certificate.specs.Body.{unread, answerWord, bodyOf, signedOf}
+use Rattle.certificate.specs.declared.Answer.{Answer}
 use Rattle.certificate.specs.declared.Reading.{Reading}
 
 pub none-pinned : Pinned Reading unread
 none-pinned = pinned _
+
+pub word-pinned : (a : Answer) → Pinned Word (answerWord a)
+word-pinned a = pinned _
 
 pub read-body-pinned : (s : List ℕ) → Pinned Reading (bodyOf s)
 read-body-pinned s = pinned _

@@ -11,12 +11,13 @@ use values::day::Dated;
 use values::day::Day;
 use values::day::day_of;
 use values::point::Point;
+use values::word::Word;
 ghost use mathlib.Core.Path.{_≡_};
 ghost use Prim.Native.Nat.{_+_, _≤_};
 ghost use lib.ListN.{length};
 ghost use Rattle.objects.specs.Objects.{allowance, objectsAt};
 ghost use Rattle.objects.specs.Chain.{counted};
-ghost use Rattle.certificate.specs.Body.{read, unread, isSigned, keyObjects, bodyOf, signedOf, versionThen, issuerThen, keyThen, ownThen, rightsThen, firstThen, lastThen, extThen};
+ghost use Rattle.certificate.specs.Body.{read, unread, answerWord, isSigned, keyObjects, bodyOf, signedOf, versionThen, issuerThen, keyThen, ownThen, rightsThen, firstThen, lastThen, extThen};
 
 // Where an object stands, from its first byte up to its end; 0 and 0 where there is none.
 pub struct Place {
@@ -37,6 +38,18 @@ pub struct Body {
 pub enum Answer {
     Read,
     Unread,
+}
+
+impl Answer {
+    // The word of a reading alone: 9000, or 6A80.
+    pub fn word(self) -> Word
+        ensures { λ r. ⌜ r ≡ answerWord self ⌝ }
+    {
+        match self {
+            Answer::Read => Word::Done,
+            Answer::Unread => Word::Data,
+        }
+    }
 }
 
 // A body that was read; `none()` values where it was not.

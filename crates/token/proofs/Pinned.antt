@@ -8,6 +8,7 @@ use Rattle.laws.proofs.Pinned.{Pinned, pinned}
 use Rattle.values.specs.declared.day.Day.{Day}
 use Rattle.strings.specs.declared.key.Key.{Key}
 use Rattle.values.specs.declared.point.Point.{Point}
+use Rattle.values.specs.declared.word.Word.{Word}
 use Rattle.settle.specs.Course.{courseJob}
 use Rattle.event.specs.declared.happening.Event.{Event}
 use Rattle.settle.specs.declared.course.Note.{Note}
@@ -16,12 +17,13 @@ use Rattle.settle.specs.declared.course.Plan.{Plan}
 use Rattle.settle.specs.declared.verdict.Answered.{Answered}
 use Rattle.trust.specs.Trust.{onePoint, twoPoints}
 use Rattle.reply.specs.Lay.{Written}
-use Rattle.token.specs.State.{noToken, madeOf, resetOf}
+use Rattle.token.specs.State.{noToken, madeWord, madeOf, resetOf}
 use Rattle.token.specs.Limits.{inLimits}
 use Rattle.token.specs.Plan.{planOf}
 use Rattle.token.specs.After.{afterOf}
 use Rattle.token.specs.Step.{stepOf}
 use Rattle.token.specs.declared.state.Token.{Token}
+use Rattle.token.specs.declared.state.Made.{Made}
 use Rattle.token.specs.declared.state.Personalised.{Personalised}
 use Rattle.token.specs.declared.step.Outcome.{Outcome}
 
@@ -29,6 +31,9 @@ use Rattle.token.specs.declared.step.Outcome.{Outcome}
 
 pub none-pinned : Pinned Token noToken
 none-pinned = pinned _
+
+pub made-word-pinned : (m : Made) → Pinned Word (madeWord m)
+made-word-pinned m = pinned _
 
 pub with-one-pinned : (newest : Point) (today : Day) → Pinned Personalised (madeOf (onePoint newest) today)
 with-one-pinned newest today = pinned _

@@ -1,13 +1,14 @@
 // The state, nested by value: what is kept over reset, and the session.
 ghost use mathlib.Core.Path.{_≡_};
 ghost use Rattle.trust.specs.Trust.{onePoint, twoPoints};
-ghost use Rattle.token.specs.State.{startOf, noToken, madeOf, resetOf};
+ghost use Rattle.token.specs.State.{startOf, noToken, madeWord, madeOf, resetOf};
 use session::Session;
 use strings::key::Key;
 use strings::name::Name;
 use trust::Points;
 use values::day::Day;
 use values::point::Point;
+use values::word::Word;
 
 pub struct Token {
     pub pin: u8,
@@ -22,6 +23,18 @@ pub struct Token {
 pub enum Made {
     Accepted,
     Unfit,
+}
+
+impl Made {
+    // The word of a personalisation: 9000, or 6A80.
+    pub fn word(self) -> Word
+        ensures { λ r. ⌜ r ≡ madeWord self ⌝ }
+    {
+        match self {
+            Made::Accepted => Word::Done,
+            Made::Unfit => Word::Data,
+        }
+    }
 }
 
 // A personalisation's answer; `none` values where it was refused.
