@@ -41,7 +41,7 @@ use Rattle.session.specs.declared.Context.{Context}
 use Rattle.standing.specs.declared.Stage.{Stage}
 use Rattle.standing.specs.declared.Selected.{Selected}
 use Rattle.standing.specs.Standing.{openedByPin, openedByCan, openedByPuk, hasDv}
-use Rattle.session.specs.Authorization.{authorization}
+use Rattle.grounds.specs.Authorization.{authorization}
 use Rattle.checks.specs.Commands.{isFor, choosePlan, runPlan, chipPlan, generalPlan, announcePlan, readPlan, changePlan, unblockPlan, activePlan}
 use Rattle.checks.specs.Certify.{selectPlan, repeats, late, heldCourse, underCourse, underPlan, verifyPlan}
 

@@ -25,7 +25,7 @@ use Rattle.standing.specs.declared.Stage.the-variants.{Idle, Run, Announced, Ch
 use Rattle.session.specs.declared.Context.{Context}
 use Rattle.standing.specs.declared.Opened.{Opened}
 use Rattle.standing.specs.Standing.{openedByPin, openedByCan, openedByPuk}
-use Rattle.session.specs.Authorization.{authorization}
+use Rattle.grounds.specs.Authorization.{authorization}
 
 -- "Bit 5 is that of the effective authorization"
 abbrev pub managesPin : Context → Bool

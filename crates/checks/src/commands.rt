@@ -7,6 +7,7 @@ ghost use Rattle.checks.specs.Commands.{isFor, choosePlan, runPlan, chip
 use event::happening::Event;
 use event::happening::Refusal;
 use fields::asked::Content;
+use grounds::authorization::authorization;
 use run::Choice;
 use run::Step;
 use session::Context;
@@ -115,7 +116,7 @@ pub fn announce(terminal: Name, name: Name, key: Key) -> Plan
 pub fn read(context: Context, group: u8) -> Plan
     ensures { λ r. ⌜ r ≡ readPlan context group ⌝ }
 {
-    let rights = context.authorization();
+    let rights = authorization(context);
     let ground = rights.reads(group);
     Plan::settled(order::on(ground, Event::ReadAllowed))
 }
@@ -124,7 +125,7 @@ pub fn change_pin(context: Context, active: bool) -> Plan
     ensures { λ r. ⌜ r ≡ changePlan context active ⌝ }
 {
     let opened = context.opened;
-    let rights = context.authorization();
+    let rights = authorization(context);
     let right = rights.manages_pin();
     let own = opened.by_pin();
     if (own & active) | right {
@@ -138,7 +139,7 @@ pub fn unblock(context: Context, used: bool, full: bool) -> Plan
     ensures { λ r. ⌜ r ≡ unblockPlan context used full ⌝ }
 {
     let opened = context.opened;
-    let rights = context.authorization();
+    let rights = authorization(context);
     let right = rights.manages_pin();
     let puk = opened.by_puk();
     Plan::settled(order::unblock(puk, right, used, full))
@@ -148,7 +149,7 @@ pub fn unblock(context: Context, used: bool, full: bool) -> Plan
 pub fn set_active(context: Context, done: Event) -> Plan
     ensures { λ r. ⌜ r ≡ activePlan context done ⌝ }
 {
-    let rights = context.authorization();
+    let rights = authorization(context);
     let right = rights.manages_pin();
     Plan::settled(order::on(right, done))
 }

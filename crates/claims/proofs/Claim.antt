@@ -27,9 +27,9 @@ use Rattle.reply.specs.Bytes.{lengthBytes, object}
 use Rattle.reply.specs.Reply as reply
 use Rattle.trust.specs.Trust.{anchorFits, onePoint, pointsFit, knows, found, linked}
 use Rattle.standing.specs.Standing.{noChain}
-use Rattle.session.specs.Moment.{momentOf}
-use Rattle.session.specs.Fits.{rootFits, dvFits, terminalFits, chainFits, groundFits, contextFits}
-use Rattle.session.specs.Authorization.{sharedBy, authorization}
+use Rattle.grounds.specs.Moment.{momentOf}
+use Rattle.grounds.specs.Fits.{rootFits, dvFits, terminalFits, chainFits, groundFits, contextFits}
+use Rattle.grounds.specs.Authorization.{sharedBy, authorization}
 use Rattle.token.specs.State.{startOf}
 use Rattle.token.specs.Limits.{inLimits}
 use Rattle.checks.specs.Commands.{choosePlan, runPlan, generalPlan, readPlan}

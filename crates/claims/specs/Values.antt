@@ -36,7 +36,7 @@ use Rattle.session.specs.declared.Context.{Context}
 use Rattle.session.specs.declared.Session.{Session}
 use Rattle.standing.specs.Standing.{noChain}
 use Rattle.session.specs.Session.{bareSession, chainedTo, announcedWith, atStage, selecting}
-use Rattle.session.specs.Authorization.{authorization}
+use Rattle.grounds.specs.Authorization.{authorization}
 use Rattle.token.specs.declared.state.Token.{Token}
 use Rattle.token.specs.State.{startOf, withPin, withSession}
 use Rattle.token.specs.Step.{Stepped, stepOf}

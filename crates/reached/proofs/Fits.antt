@@ -60,9 +60,9 @@ use Rattle.standing.specs.declared.Selected.the-variants.{NoIssuer, Of as Chose
 use Rattle.standing.specs.declared.Stage.{Stage}
 use Rattle.standing.specs.declared.Stage.the-variants.{Idle, Run, Announced, Challenged, Proven, ChipKeyChosen, Authenticated}
 use Rattle.standing.specs.Standing.{isOpen, openedByPin, openedByCan, openedByPuk, hasRights, hasDv, hasTerminal, isSelected, rank, unproven}
-use Rattle.session.specs.Moment.{momentOf}
-use Rattle.session.specs.Authorization.{authorization}
-use Rattle.session.specs.Fits.{contextFits}
+use Rattle.grounds.specs.Moment.{momentOf}
+use Rattle.grounds.specs.Authorization.{authorization}
+use Rattle.grounds.specs.Fits.{contextFits}
 use Rattle.token.specs.declared.state.Token.{Token}
 use Rattle.token.specs.State.{tries, uses, contextOf, chainOf}
 use Rattle.token.specs.Limits.{selectable, inLimits}

@@ -50,8 +50,8 @@ use Rattle.standing.specs.declared.Selected.the-variants.{NoIssuer, Of}
 use Rattle.standing.specs.declared.Stage.{Stage}
 use Rattle.standing.specs.declared.Stage.the-variants.{Idle, Run, Announced as AtAnnounced, Challenged as AtChallenged, Proven as AtProven, ChipKeyChosen as AtChosen, Authenticated as AtAuthenticated}
 use Rattle.standing.specs.Standing.{isOpen, openedByPin, openedByCan, openedByPuk, hasDv}
-use Rattle.session.specs.Moment.{momentOf}
-use Rattle.session.specs.Authorization.{authorization}
+use Rattle.grounds.specs.Moment.{momentOf}
+use Rattle.grounds.specs.Authorization.{authorization}
 use Rattle.reply.specs.Reply.{room}
 use Rattle.token.specs.declared.state.Token.{Token}
 use Rattle.token.specs.State.{tries, contextOf, chainOf}

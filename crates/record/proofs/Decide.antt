@@ -50,9 +50,9 @@ use Rattle.standing.specs.declared.Stage.{Stage}
 use Rattle.standing.specs.declared.Stage.the-variants.{Idle, Run, Announced as AtAnnounced, Challenged as AtChallenged, Proven as AtProven, ChipKeyChosen as AtChosen, Authenticated as AtAuthenticated}
 use Rattle.session.specs.declared.Context.{Context}
 use Rattle.standing.specs.Standing.{isOpen, openedByPin, openedByCan, hasRights, hasTerminal, reachesTerminal, noRun, told, isAuthenticated}
-use Rattle.session.specs.Moment.{momentOf}
-use Rattle.session.specs.Authorization.{rootOf, confirmedOf, authorization}
-use Rattle.session.proofs.Authorizes.{shared-right, effective-right}
+use Rattle.grounds.specs.Moment.{momentOf}
+use Rattle.grounds.specs.Authorization.{rootOf, confirmedOf, authorization}
+use Rattle.grounds.proofs.Authorizes.{shared-right, effective-right}
 use Rattle.token.specs.State.{contextOf}
 use Rattle.token.specs.declared.state.Token.{Token}
 use Rattle.token.specs.Limits.{inLimits}

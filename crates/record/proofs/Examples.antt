@@ -22,9 +22,9 @@ use Rattle.record.specs.Rule.{readable}
 use Rattle.reply.specs.Bytes.{lengthBytes, object as object·Bytes·reply}
 use Rattle.reply.specs.Lay.{over}
 use Rattle.reply.specs.Reply.{dataOf as dataOf·Reply·reply, replyOf}
-use Rattle.session.specs.Authorization.{sharedBy, authorization}
-use Rattle.session.specs.Fits.{rootFits, dvFits, terminalFits, chainFits, groundFits, contextFits}
-use Rattle.session.specs.Moment.{momentOf}
+use Rattle.grounds.specs.Authorization.{sharedBy, authorization}
+use Rattle.grounds.specs.Fits.{rootFits, dvFits, terminalFits, chainFits, groundFits, contextFits}
+use Rattle.grounds.specs.Moment.{momentOf}
 use Rattle.standing.specs.Standing.{noChain}
 use Rattle.token.specs.After.{choiceTaken, staged, stepPassed, opened, runClosed, trialLost, issuerSelected, linkTaken, dvTaken, terminalTaken, announced, unblocked, unblockedByPuk, activated, afterOf}
 use Rattle.checks.specs.Certify.{selectPlan, repeats, late, underCourse, underPlan, verifyPlan}

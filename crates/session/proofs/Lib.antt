@@ -1,4 +1,2 @@
-pub mod Moments
 pub mod Parts
-pub mod Authorizes
 pub mod Pinned

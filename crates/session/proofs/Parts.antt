@@ -1,36 +1,17 @@
--- Sessions and the limits of their parts, over plain values. Assumes nothing.
+-- Sessions, over plain values. Assumes nothing.
 use borrow.Author.Needs.{needs}
-use Prim.Native.Nat.{ℕ}
-use mathlib.Core.Bool.{Bool, true, not, _&&_, _||_}
-use mathlib.Core.Path.{_≡_, sym, ap}
-use lib.Dec.{leb, eqb}
-use Rattle.rights.specs.Rights.{rightsFit, roleOf, isCvca, isDv, isTerminal}
-use Rattle.values.specs.Points.{pointFits}
-use Rattle.strings.specs.Keys.{noKey, keyFits, keyStands}
-use Rattle.values.specs.declared.point.Point.{Point}
+use mathlib.Core.Path.{_≡_}
+use Rattle.strings.specs.Keys.{noKey}
 use Rattle.strings.specs.declared.key.Key.{Key}
-use Rattle.rights.specs.declared.Rights.{Rights}
-use Rattle.rights.specs.declared.Role.{Role}
 use Rattle.rights.specs.declared.Granted.{Granted}
-use Rattle.rights.specs.declared.Granted.the-variants.{These}
-use Rattle.run.specs.declared.Choice.{Choice}
-use Rattle.run.specs.declared.Password.{Password}
-use Rattle.run.specs.declared.Step.{Step}
-use Rattle.run.specs.Run.{passwordOf, rightsNamed, isPin}
 use Rattle.standing.specs.declared.Opened.{Opened}
-use Rattle.standing.specs.declared.Reach.{Reach}
-use Rattle.standing.specs.declared.Reach.the-variants.{Empty, ToDv, ToTerminal}
 use Rattle.standing.specs.declared.Chain.{Chain}
 use Rattle.standing.specs.declared.Selected.the-variants.{NoIssuer}
 use Rattle.standing.specs.declared.Stage.{Stage}
-use Rattle.standing.specs.declared.Stage.the-variants.{Idle, Run}
-use Rattle.session.specs.declared.Context.{Context}
+use Rattle.standing.specs.declared.Stage.the-variants.{Idle}
 use Rattle.session.specs.declared.Session.{Session}
-use Rattle.standing.specs.Standing.{openedByPin, openedByCan, hasRights, hasDv, hasTerminal, noChain, rank}
+use Rattle.standing.specs.Standing.{noChain}
 use Rattle.session.specs.Session.{bareSession, chainedTo}
-use Rattle.session.specs.Fits.{grantedFits, rootFits, dvFits, terminalFits, reachFits, chainFits, runFits, stageFits, groundFits, contextFits}
-
--- ---- sessions
 
 pub bare-is : (o : Opened) (g : Granted) (s : Stage) (c : Chain) (k : Key) → c ≡ noChain → k ≡ noKey
     → _≡_ {A = Session} (record { context = record { opened = o; confirmed = g; chain = c; stage = s; key = k }; selected = NoIssuer }) (bareSession o g s)
@@ -40,53 +21,4 @@ pub chained-is : (z : Session) (c : Chain) (k : Key) → k ≡ noKey
     → _≡_ {A = Session} (record { context = record { opened = z .context .opened; confirmed = z .context .confirmed; chain = c; stage = Idle; key = k }; selected = NoIssuer }) (chainedTo z c)
 chained-is z c k e = rw e
 
--- ---- limits
-
-pub granted-these : (g : Granted) (r : Rights) (b : Bool) → g ≡ These r → b ≡ rightsFit r → b ≡ grantedFits g
-granted-these g r b e f = rw e f
-
-pub root-is : (r : Rights) (a b : Bool) (o : Role) → a ≡ rightsFit r → o ≡ roleOf r → b ≡ isCvca o → a && b ≡ rootFits r
-unfolding rootFits
-root-is r a b o e f g = rw (e, g, f)
-
-pub dv-is : (p : Point) (a b : Bool) (o : Role) → a ≡ pointFits p → o ≡ roleOf (p .rights) → b ≡ isDv o → a && b ≡ dvFits p
-unfolding dvFits
-dv-is p a b o e f g = rw (e, g, f)
-
-pub terminal-is : (p : Point) (a b : Bool) (o : Role) → a ≡ pointFits p → o ≡ roleOf (p .rights) → b ≡ isTerminal o → a && b ≡ terminalFits p
-unfolding terminalFits
-terminal-is p a b o e f g = rw (e, g, f)
-
-module _ (c : Chain) where
-  pub chain-empty : c .reach ≡ Empty → true ≡ chainFits c
-  unfolding chainFits
-  chain-empty e = ap (λ (r : Reach). reachFits r (c .dv) (c .terminal)) (sym e)
-
-  module _ (r : Rights) (a b : Bool) (f : a ≡ rootFits r) (g : b ≡ dvFits (c .dv)) where
-    pub chain-dv : c .reach ≡ ToDv r → a && b ≡ chainFits c
-    unfolding chainFits
-    chain-dv e = rw (f, g) (ap (λ (x : Reach). reachFits x (c .dv) (c .terminal)) (sym e))
-
-    pub chain-terminal : (d : Bool) → d ≡ terminalFits (c .terminal) → c .reach ≡ ToTerminal r → a && b && d ≡ chainFits c
-    unfolding chainFits
-    chain-terminal d h e = rw (f, g, h) (ap (λ (x : Reach). reachFits x (c .dv) (c .terminal)) (sym e))
-
-pub run-fits : (c : Choice) (p : Step) (pin : ℕ) (w : Password) (g : Granted) (a b : Bool) → w ≡ passwordOf c → a ≡ isPin w → g ≡ rightsNamed c → b ≡ grantedFits g
-    → not (a && eqb pin 0) && b ≡ runFits c p pin
-run-fits c p pin w g a b e f h i = rw (f, e, i, h)
-
-pub stage-run : (s : Stage) (pin : ℕ) (c : Choice) (p : Step) (b : Bool) → s ≡ Run c p → b ≡ runFits c p pin → b ≡ stageFits s pin
-stage-run s pin c p b e f = rw e f
-
-pub ground-is : (c : Context) (k : ℕ) (r p n d t a : Bool) → r ≡ hasRights (c .confirmed) → p ≡ openedByPin (c .opened) → n ≡ openedByCan (c .opened) → k ≡ rank (c .stage)
-    → d ≡ hasDv (c .chain) → t ≡ hasTerminal (c .chain) → a ≡ keyStands (c .key)
-    → (not r || (p || n)) && (not d || r) && (not (leb 2 k) || (r && t && a)) ≡ groundFits c
-unfolding groundFits
-ground-is c k r p n d t a e f g h i j l = rw (e, f, g, h, i, j, l)
-
-pub context-is : (x : Context) (pin : ℕ) (a b c d e : Bool) → a ≡ grantedFits (x .confirmed) → b ≡ chainFits (x .chain) → c ≡ stageFits (x .stage) pin → d ≡ keyFits (x .key)
-    → e ≡ groundFits x → a && b && c && d && e ≡ contextFits x pin
-unfolding contextFits
-context-is x pin a b c d e f g h i j = rw (f, g, h, i, j)
-
-pub ruleset parts = (bare-is, chained-is, granted-these, root-is, dv-is, terminal-is, chain-empty, chain-dv, chain-terminal, run-fits, stage-run, ground-is, context-is, needs)
+pub ruleset parts = (bare-is, chained-is, needs)

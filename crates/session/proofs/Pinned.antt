@@ -1,24 +1,14 @@
 -- Two permitted outcomes of each public function are equal. Assumes nothing.
-use Prim.Native.Nat.{ℕ}
-use mathlib.Core.Bool.{Bool}
 use Rattle.laws.proofs.Pinned.{Pinned, pinned}
 use Rattle.strings.specs.declared.key.Key.{Key}
-use Rattle.rights.specs.declared.Rights.{Rights}
 use Rattle.rights.specs.declared.Granted.{Granted}
 use Rattle.event.specs.declared.happening.Issuer.{Issuer}
-use Rattle.command.specs.declared.kind.Kind.{Kind}
 use Rattle.session.specs.Session.{noSession, bareSession, rechosen, atStage, announcedWith, chainedTo, selecting}
-use Rattle.session.specs.Moment.{momentOf}
-use Rattle.session.specs.Fits.{grantedFits, contextFits}
-use Rattle.session.specs.Authorization.{authorization}
 use Rattle.run.specs.declared.Choice.{Choice}
 use Rattle.standing.specs.declared.Opened.{Opened}
 use Rattle.standing.specs.declared.Chain.{Chain}
 use Rattle.standing.specs.declared.Stage.{Stage}
-use Rattle.session.specs.declared.Context.{Context}
 use Rattle.session.specs.declared.Session.{Session}
-
--- ---- sessions
 
 pub bare-pinned : (o : Opened) (g : Granted) (s : Stage) → Pinned Session (bareSession o g s)
 bare-pinned o g s = pinned _
@@ -40,17 +30,3 @@ chained-pinned z c = pinned _
 
 pub selecting-pinned : (z : Session) (i : Issuer) → Pinned Session (selecting z i)
 selecting-pinned z i = pinned _
-
--- ---- moment, limits, authorization
-
-pub moment-pinned : (z : Session) (k : Kind) (chained : Bool) → Pinned Bool (momentOf z k chained)
-moment-pinned z k chained = pinned _
-
-pub granted-fits-pinned : (g : Granted) → Pinned Bool (grantedFits g)
-granted-fits-pinned g = pinned _
-
-pub fits-pinned : (c : Context) (pin : ℕ) → Pinned Bool (contextFits c pin)
-fits-pinned c pin = pinned _
-
-pub authorization-pinned : (c : Context) → Pinned Rights (authorization c)
-authorization-pinned c = pinned _

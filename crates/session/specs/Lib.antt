@@ -1,4 +1,1 @@
 pub mod Session
-pub mod Moment
-pub mod Fits
-pub mod Authorization

@@ -11,10 +11,6 @@ use standing::Selected;
 use standing::Stage;
 use strings::key::Key;
 
-pub mod authorization;
-pub mod fits;
-pub mod moment;
-
 // What a later store of contexts keeps: all of a session but the selection.
 pub struct Context {
     pub opened: Opened,

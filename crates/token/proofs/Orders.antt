@@ -19,7 +19,7 @@ use Rattle.fields.specs.declared.asked.Request.{Request}
 use Rattle.fields.specs.declared.asked.Asked.{Asked}
 use Rattle.fields.specs.Asked.{askedOf}
 use Rattle.standing.specs.Standing.{isOpen}
-use Rattle.session.specs.Moment.{momentOf}
+use Rattle.grounds.specs.Moment.{momentOf}
 use Rattle.token.specs.declared.state.Token.{Token}
 use Rattle.token.specs.Limits.{inLimits}
 use Rattle.token.specs.Plan.{commandOf, timedOf, requestedOf, guarded, planOf}

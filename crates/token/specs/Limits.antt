@@ -7,7 +7,7 @@ use Rattle.event.specs.declared.happening.Issuer.the-variants.{Newest, Previous
 use Rattle.standing.specs.declared.Selected.{Selected}
 use Rattle.standing.specs.declared.Selected.the-variants.{NoIssuer, Of}
 use Rattle.standing.specs.Standing.{hasDv}
-use Rattle.session.specs.Fits.{contextFits}
+use Rattle.grounds.specs.Fits.{contextFits}
 use Rattle.token.specs.declared.state.Token.{Token}
 use Rattle.token.specs.State.{tries, uses}
 

@@ -20,7 +20,7 @@ use Rattle.fields.specs.declared.asked.Request.the-variants.{Refused as Faulty,
 use Rattle.fields.specs.declared.asked.Asked.{Asked}
 use Rattle.fields.specs.Asked.{askedOf}
 use Rattle.standing.specs.Standing.{isOpen}
-use Rattle.session.specs.Moment.{momentOf}
+use Rattle.grounds.specs.Moment.{momentOf}
 use Rattle.checks.specs.Commands.{choosePlan, generalPlan, announcePlan, readPlan, changePlan, unblockPlan, activePlan}
 use Rattle.checks.specs.Certify.{selectPlan, verifyPlan}
 use Rattle.token.specs.declared.state.Token.{Token}

@@ -3,6 +3,7 @@ ghost use mathlib.Core.Path.{_≡_};
 ghost use Rattle.token.specs.Limits.{selectable, inLimits};
 use super::state::Token;
 use event::happening::Issuer;
+use grounds::fits::context_fits;
 use standing::Selected;
 
 // Whether a selection is one of the trust points held or the chain's DV.
@@ -35,7 +36,7 @@ impl Token {
         let today = self.today;
         let dated = today.fits();
         let trusted = points.fit();
-        let parts = context.fits(self.pin);
+        let parts = context_fits(context, self.pin);
         let held = chain.has_dv();
         let known = points.knows(name);
         let chosen = selectable(selected, two, held);

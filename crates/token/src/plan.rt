@@ -11,6 +11,7 @@ use event::happening::Refusal;
 use fields::asked::Ask;
 use fields::asked::Asked;
 use fields::asked::Request;
+use grounds::moment::moment;
 use settle::course::Guard;
 use settle::course::Job;
 use settle::course::Note;
@@ -58,7 +59,7 @@ impl Token {
         ensures { λ r. ⌜ r ≡ timedOf self a kind chained ask ⌝ }
     {
         let z = self.session;
-        if !z.moment(kind, chained) {
+        if !moment(z, kind, chained) {
             return Plan::settled(Event::Refused(Refusal::Moment));
         }
         self.command(a, ask)

@@ -1,0 +1,4 @@
+pub mod Moments
+pub mod Parts
+pub mod Authorizes
+pub mod Pinned

@@ -1,0 +1,14 @@
+-- `grounds::authorization::shared` meets its contract. Assumes nothing.
+use borrow.Author.Needs.{needs}
+use Rattle.grounds.proofs.Authorizes.{authorizes}
+use Rattle.grounds.proofs.authorization.shared.Statement.{statement}
+use Rattle.grounds.proofs.authorization.shared.Tie as tie
+
+pub shared-spec : {M : Type 1} → statement M
+shared-spec =
+    tie.close
+    (tie.spec
+    (λ c κs. search needs)
+    (λ c κs. search needs)
+    (λ c κs. search needs)
+    (λ c. search authorizes depth 7))

@@ -1,0 +1,16 @@
+-- `grounds::fits::context_fits` meets its contract. Assumes nothing.
+use borrow.Author.Needs.{needs}
+use Rattle.grounds.proofs.Parts.{parts}
+use Rattle.grounds.proofs.fits.context_fits.Statement.{statement}
+use Rattle.grounds.proofs.fits.context_fits.Tie as tie
+
+pub context-fits-spec : {M : Type 1} → statement M
+context-fits-spec =
+    tie.close
+    (tie.spec
+    (λ c κs. search needs)
+    (λ c κs. search needs)
+    (λ c κs. search needs)
+    (λ c κs. search needs)
+    (λ c κs. search needs)
+    (λ c. search parts depth 8))

@@ -1,0 +1,14 @@
+-- `grounds::fits::dv_fits` meets its contract. Assumes nothing.
+use borrow.Author.Needs.{needs}
+use Rattle.grounds.proofs.Parts.{parts}
+use Rattle.grounds.proofs.fits.dv_fits.Statement.{statement}
+use Rattle.grounds.proofs.fits.dv_fits.Tie as tie
+
+pub dv-fits-spec : {M : Type 1} → statement M
+dv-fits-spec =
+    tie.close
+    (tie.spec
+    (λ c κs. search needs)
+    (λ c κs. search needs)
+    (λ c κs. search needs)
+    (λ c. search parts))
