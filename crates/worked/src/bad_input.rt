@@ -4,7 +4,7 @@ use super::certificates::UTTERM;
 use super::show::body;
 use super::show::heading;
 use super::show::number;
-use super::show::text;
+use super::show::write;
 use certificate::Answer;
 use strings::bytes::clip;
 
@@ -40,11 +40,11 @@ fn truncations(s: &[u8]) -> usize {
 }
 
 fn truncated(s: &[u8]) {
-    text(b"truncations refused ");
+    write(b"truncations refused ");
     number(truncations(s));
-    text(b" of ");
+    write(b" of ");
     number(s.len());
-    text(b"\n");
+    write(b"\n");
 }
 
 // A body with the first byte of another after it, and with the whole of it.

@@ -1,10 +1,10 @@
 // Shows the product at work, a section to a module. What it writes is held to the file stdout.
 mod bad_input;
+mod buffers;
 mod certificates;
-mod samples;
 mod show;
 mod status_words;
-mod talk;
+mod told;
 mod whole_session;
 
 fn main() {
@@ -12,4 +12,5 @@ fn main() {
     bad_input::section();
     whole_session::section();
     status_words::section();
+    buffers::section();
 }

@@ -6,14 +6,14 @@ use strings::name::Name;
 use values::day::Day;
 use values::word::Word;
 
-pub fn text(s: &[u8]) {
+pub fn write(s: &[u8]) {
     io::write_all(1, s);
 }
 
 // The name of a section, on a line of its own.
 pub fn heading(s: &[u8]) {
-    text(s);
-    text(b"\n");
+    write(s);
+    write(b"\n");
 }
 
 pub fn number(n: usize) {
@@ -40,10 +40,10 @@ fn day(d: Day) {
         digit(n),
         b' ',
     ];
-    text(&line);
+    write(&line);
 }
 
-pub fn hex(n: u64) -> u8 {
+fn hex(n: u64) -> u8 {
     let d = n % 16;
     if d < 10 {
         (48 + d) as u8
@@ -68,21 +68,21 @@ fn rights(r: Rights) {
         hex(n),
         b' ',
     ];
-    text(&line);
+    write(&line);
 }
 
 // Four digits.
-pub fn word(w: Word) {
+fn word(w: Word) {
     let n = w.number() as u64;
     let line = [hex(n / 0x1000), hex(n / 0x100), hex(n / 0x10), hex(n)];
-    text(&line);
+    write(&line);
 }
 
 fn name(n: Name) {
     let b = n.bytes;
     let m = strings::bytes::clip(n.len, Name::MOST);
-    text(&b[..m]);
-    text(b" ");
+    write(&b[..m]);
+    write(b" ");
 }
 
 fn fields(b: Body) {
@@ -92,7 +92,7 @@ fn fields(b: Body) {
     let held = point.rights;
     let first = point.first;
     let last = point.last;
-    text(b"read ");
+    write(b"read ");
     name(issuer);
     name(holder);
     rights(held);
@@ -103,8 +103,8 @@ fn fields(b: Body) {
 
 // A line: what the bytes are called, and what was read of them, or 6A80.
 pub fn body(called: &[u8], s: &[u8]) {
-    text(called);
-    text(b" ");
+    write(called);
+    write(b" ");
     let r = certificate::read_body(s);
     let answer = r.answer;
     match answer {
@@ -116,5 +116,5 @@ pub fn body(called: &[u8], s: &[u8]) {
             word(Word::Data);
         }
     }
-    text(b"\n");
+    write(b"\n");
 }

@@ -1,0 +1,25 @@
+-- `lines::carried` meets its contract. Assumes nothing.
+use borrow.Author.Needs.{needs}
+use Rattle.lines.proofs.Moving.{stays-there}
+use Rattle.lines.proofs.carried.Statement.{statement}
+use Rattle.lines.proofs.carried.Tie as tie
+
+pub carried-spec : {M : Type 1} → statement M
+carried-spec =
+    tie.close
+    (tie.spec
+    (λ c. search needs)
+    (λ c κs. search needs)
+    (λ c. search needs)
+    (λ c. search needs)
+    (λ c. search needs)
+    (λ c κs. search needs)
+    (λ c. search needs)
+    (λ c. search needs)
+    (λ c. search needs)
+    (λ c κs. search needs)
+    (λ c. search needs)
+    (λ c. search needs)
+    (λ c κs. search needs)
+    (λ c. search needs)
+    (λ c. search stays-there))

@@ -1,0 +1,17 @@
+-- `lines::personalise::personalise` meets its contract. Assumes nothing.
+use borrow.Author.Needs.{needs}
+use Rattle.lines.proofs.Moving.{stays-there, taken}
+use Rattle.lines.proofs.personalise.personalise.Statement.{statement}
+use Rattle.lines.proofs.personalise.personalise.Tie as tie
+
+pub personalise-spec : {M : Type 1} → statement M
+personalise-spec =
+    tie.close
+    (tie.spec
+    (λ c κs. search needs)
+    (λ c. search needs)
+    (λ c κs. search needs)
+    (λ c. search needs)
+    (λ c. search stays-there)
+    (λ c. search needs)
+    (λ c. search taken depth 6))

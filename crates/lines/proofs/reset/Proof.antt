@@ -1,0 +1,17 @@
+-- `lines::reset` meets its contract. Assumes nothing.
+use borrow.Author.Needs.{needs}
+use Rattle.lines.proofs.Moving.{stays-there, reset-to}
+use Rattle.lines.proofs.reset.Statement.{statement}
+use Rattle.lines.proofs.reset.Tie as tie
+
+pub reset-spec : {M : Type 1} → statement M
+reset-spec =
+    tie.close
+    (tie.spec
+    (λ c κs. search needs)
+    (λ c. search stays-there)
+    (λ c κs. search needs)
+    (λ c. search needs)
+    (λ c κs. search needs)
+    (λ c. search needs)
+    (λ c. search reset-to depth 6))

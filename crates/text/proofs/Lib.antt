@@ -1,0 +1,5 @@
+pub mod Laying
+pub mod Digits
+pub mod Numbers
+pub mod Pairs
+pub mod Back

@@ -1,0 +1,15 @@
+-- `text::put` meets its contract. Assumes nothing.
+use borrow.Author.Needs.{needs}
+use Rattle.text.proofs.Laying.{in-room, placed, unplaced}
+use Rattle.text.proofs.put.Statement.{statement}
+use Rattle.text.proofs.put.Tie as tie
+
+pub put-spec : {M : Type 1} → statement M
+put-spec =
+    tie.close
+    (tie.spec
+    (λ c κs. search needs)
+    (λ c κs. search in-room)
+    (λ c. search needs)
+    (λ c. search placed depth 6)
+    (λ c. search unplaced depth 6))

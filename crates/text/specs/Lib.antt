@@ -1,0 +1,4 @@
+pub mod Room
+pub mod Find
+pub mod Digits
+pub mod Hex

@@ -1,0 +1,74 @@
+// The reply buffer: nothing in a short one; else the reply, and after it what stood there.
+ghost use Prim.Native.Nat.{_≤_};
+use super::show::heading;
+use super::show::number;
+use super::show::write;
+use rights::Rights;
+use settle::course::Job;
+use settle::course::Note;
+use settle::verdict::Answered;
+use settle::verdict::Verdict;
+use strings::name::Name;
+use token::state::Token;
+use values::day::Day;
+use values::point::Point;
+
+// One, if a byte is still AA.
+fn still(b: u8) -> usize
+    ensures { λ r. ⌜ r ≤ 1 ⌝ }
+{
+    if b == 0xAA {
+        return 1;
+    }
+    0
+}
+
+// How many bytes are still AA.
+fn kept(s: &[u8]) -> usize {
+    let mut n = 0;
+    let mut i = 0;
+    while i < s.len() {
+        n += still(s[i]);
+        i += 1;
+    }
+    n
+}
+
+// The CAN chosen, into a buffer of AA.
+fn chosen(t: Token, out: &mut [u8]) {
+    let none = Answered {
+        job: Job::Nothing,
+        verdict: Verdict::Missing,
+    };
+    let can = b"\x00\x22\xc1\xa4\x0f\x80\x0a\x04\x00\x7f\x00\x07\x02\x02\x04\x02\x02\x83\x01\x02";
+    let r = t.step(can, Note::Plain, none, b"", b"", &mut *out);
+    write(b"choose the CAN, a buffer of ");
+    number(out.len());
+    write(b": ");
+    number(r.len);
+    write(b" bytes, ");
+    number(kept(out));
+    write(b" kept\n");
+}
+
+fn token() -> Token {
+    let point = Point {
+        name: Name::of(b"UTCVCAAT00001"),
+        rights: Rights(0xFF_FFFF_FFFF),
+        first: Day(20260101),
+        last: Day(20281231),
+        key: 1,
+    };
+    let p = Token::with_one(point, Day(20260215));
+    let t = p.token;
+    t
+}
+
+pub fn section() {
+    heading(b"reply buffers");
+    let t = token();
+    let mut short = [0xAAu8; 257];
+    chosen(t, &mut short);
+    let mut enough = [0xAAu8; 258];
+    chosen(t, &mut enough);
+}
