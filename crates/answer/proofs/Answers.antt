@@ -3,8 +3,8 @@ use Prim.Native.Nat.{ℕ}
 use mathlib.Core.Path.{_≡_, sym, ap, _∙_}
 use mathlib.Core.List.{List}
 use lib.ListN.{length}
-use Rattle.values.specs.Words.{number}
-use Rattle.values.specs.declared.word.Word.{Word}
+use Rattle.status.specs.Words.{number}
+use Rattle.status.specs.declared.Word.{Word}
 use Rattle.event.specs.declared.happening.Event.{Event}
 use Rattle.event.specs.Event.{wordOf}
 use Rattle.trust.specs.declared.Points.{Points}

@@ -1,7 +1,7 @@
 -- The reply to an event. Assumes nothing: these are definitions.
 use Prim.Native.Nat.{ℕ}
 use mathlib.Core.List.{List}
-use Rattle.values.specs.Words.{number}
+use Rattle.status.specs.Words.{number}
 use Rattle.run.specs.declared.Step.{Step}
 use Rattle.run.specs.declared.Step.the-variants.{Nonce, Map, Agree, Confirm}
 use Rattle.event.specs.declared.happening.Refusal.{Refusal}

@@ -21,13 +21,13 @@ use Rattle.objects.proofs.Chain.{rest, flat-counts}
 use Rattle.strings.specs.Bytes.{eqbs}
 use Rattle.rights.specs.Rights.{isRights, template}
 use Rattle.strings.proofs.Strings.{same-lengths, eqbs-true}
-use Rattle.strings.specs.Names.{noName}
-use Rattle.values.specs.Points.{noPoint}
-use Rattle.strings.specs.declared.name.Name.{Name}
-use Rattle.values.specs.declared.point.Point.{Point}
+use Rattle.names.specs.Names.{noName}
+use Rattle.points.specs.Points.{noPoint}
+use Rattle.names.specs.declared.Name.{Name}
+use Rattle.points.specs.declared.Point.{Point}
 use Rattle.certificate.specs.Body.{mechanism, isKey, keyObjects, noPlace, unread}
 use Rattle.certificate.specs.declared.Reading.{Reading}
-use Rattle.certificate.specs.declared.Answer.the-variants.{Unread}
+use Rattle.status.specs.declared.Intake.the-variants.{Unfit}
 
 two-objects : (depth a b c d e : ℕ) → objects depth (template ++ (a ∷ b ∷ c ∷ d ∷ e ∷ [])) ≡ Objects 2
 unfolding objects objectsOf headerOf tagOf lenOf
@@ -81,7 +81,7 @@ module _ (left : ℕ) (s : List ℕ) where
 -- ---- no body
 
 pub none-is : (n : Name) (p : Point) → n ≡ noName → p ≡ noPoint
-    → _≡_ {A = Reading} (record { answer = Unread; body = record { issuer = n; point = p; key = noPlace; ext = noPlace; count = 0 } }) unread
+    → _≡_ {A = Reading} (record { answer = Unfit; body = record { issuer = n; point = p; key = noPlace; ext = noPlace; count = 0 } }) unread
 unfolding unread
 none-is n p e f = rw (e, f)
 

@@ -5,8 +5,8 @@ use mathlib.Core.List.{List, [], _∷_}
 use Rattle.objects.specs.Objects.{objectsIn, objects, objectsOf, foundIn, headerOf, tagOf, tag2, lenOf, len1, len2}
 use Rattle.objects.specs.Chain.{taken}
 use Rattle.strings.specs.Bytes.{copiedInto}
-use Rattle.strings.specs.Names.{isName, nameOf}
-use Rattle.values.specs.Days.{isDate, isDay, before}
+use Rattle.names.specs.Names.{isName, nameOf}
+use Rattle.days.specs.Days.{isDate, isDay, before}
 use Rattle.rights.specs.Rights.{isRights}
 use Rattle.certificate.specs.Body.{isKey, read, bodyOf, wholeOf, versionThen, issuerThen, keyThen, ownThen, rightsThen, firstThen, lastThen, extThen}
 

@@ -10,28 +10,28 @@ use Rattle.objects.specs.Objects.{part, objectsIn}
 use Rattle.objects.specs.Chain.{taken}
 use Rattle.objects.proofs.Chain.{taken-all, answered-all}
 use Rattle.strings.specs.Bytes.{eqbs}
-use Rattle.strings.specs.Names.{isName, nameOf, nameFits}
-use Rattle.values.specs.Days.{isDay, dayOf, dayFits, before}
+use Rattle.names.specs.Names.{isName, nameOf, nameFits}
+use Rattle.days.specs.Days.{isDay, dayOf, dayFits, before}
 use Rattle.rights.specs.Rights.{isRights, rightsOf, rightsFit}
-use Rattle.values.specs.Points.{pointFits}
-use Rattle.strings.specs.declared.name.Name.{Name}
-use Rattle.values.specs.declared.day.Day.{Day}
+use Rattle.points.specs.Points.{pointFits}
+use Rattle.names.specs.declared.Name.{Name}
+use Rattle.days.specs.declared.Day.{Day}
 use Rattle.rights.specs.declared.Rights.{Rights}
-use Rattle.strings.proofs.Kept.{name-good}
-use Rattle.values.proofs.Kept.{day-good}
+use Rattle.names.proofs.Kept.{name-good}
+use Rattle.days.proofs.Kept.{day-good}
 use Rattle.rights.proofs.Kept.{rights-good}
 use Rattle.certificate.specs.Body.{unread, read, any, ended, placeOf, isLast, isKey, isSignature, Pending, bodyOf, wholeOf, signedOf, signedWhole, versionThen, issuerThen, keyThen, ownThen, rightsThen, firstThen, lastThen, extThen}
 use Rattle.certificate.specs.declared.Place.{Place}
 use Rattle.certificate.specs.declared.Body.{Body}
 use Rattle.certificate.specs.declared.Reading.{Reading}
-use Rattle.certificate.specs.declared.Answer.the-variants.{Read}
+use Rattle.status.specs.declared.Intake.the-variants.{Accepted}
 
 pub record Good (b : Body) : Type 0 where
   pub issuer : nameFits (b .issuer) ≡ true
   pub point : pointFits (b .point) ≡ true
 
 abbrev pub ReadGood : Reading → Type 0
-ReadGood r = r .answer ≡ Read → Good (r .body)
+ReadGood r = r .answer ≡ Accepted → Good (r .body)
 
 never : ReadGood unread
 unfolding unread

@@ -2,4 +2,3 @@ pub mod Contents
 pub mod Links
 pub mod Good
 pub mod Examples
-pub mod Pinned

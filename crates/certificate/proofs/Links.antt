@@ -23,17 +23,17 @@ use Rattle.objects.proofs.Sizes.{found-sizes, part-length}
 use Rattle.objects.proofs.Counts.{kept-objects}
 use Rattle.objects.proofs.Chain.{rest, none-counts, answered-counted, found-start, found-end, counted-no, counted-over, flat-counts, taken-is, not-taken, not-fit, flat-taken, nest-taken, nest-refused}
 use Rattle.strings.specs.Bytes.{eqbs, among}
-use Rattle.strings.specs.Names.{isName, nameOf}
-use Rattle.values.specs.Days.{isDay, dayOf, dated, before}
+use Rattle.names.specs.Names.{isName, nameOf}
+use Rattle.days.specs.Days.{isDay, dayOf, dated, before}
 use Rattle.rights.specs.Rights.{isRights, rightsOf, granted}
 use Rattle.certificate.specs.Body.{isLast, isKey, keyObjects, isSignature, unread, read, noPlace, any, ended, placeOf, bodyOf, wholeOf, signedOf, signedWhole, isSigned, signsBy, versionThen, issuerThen, keyThen, ownThen, rightsThen, firstThen, lastThen, extThen}
-use Rattle.strings.specs.declared.name.Name.{Name}
-use Rattle.values.specs.declared.day.Day.{Day}
+use Rattle.names.specs.declared.Name.{Name}
+use Rattle.days.specs.declared.Day.{Day}
 use Rattle.rights.specs.declared.Rights.{Rights}
 use Rattle.certificate.specs.declared.Place.{Place}
 use Rattle.certificate.specs.declared.Reading.{Reading}
-use Rattle.values.specs.declared.day.Dated.{Dated}
-use Rattle.values.specs.declared.day.Dated.the-variants.{On, NoDay}
+use Rattle.days.specs.declared.Dated.{Dated}
+use Rattle.days.specs.declared.Dated.the-variants.{On, NoDay}
 use Rattle.rights.specs.declared.Granted.{Granted}
 use Rattle.rights.specs.declared.Granted.the-variants.{These, NoRights}
 use Rattle.laws.proofs.Bools.{and-l, and-r}

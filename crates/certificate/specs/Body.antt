@@ -12,36 +12,28 @@ use Rattle.objects.specs.Chain.{answered, taken}
 use Rattle.objects.specs.declared.Found.{Found}
 use Rattle.objects.specs.declared.Found.the-variants.{Content, Missing}
 use Rattle.strings.specs.Bytes.{eqbs, among}
-use Rattle.strings.specs.Names.{isName, nameOf, noName}
-use Rattle.values.specs.Days.{isDay, dayOf, before}
+use Rattle.names.specs.Names.{isName, nameOf, noName}
+use Rattle.days.specs.Days.{isDay, dayOf, before}
 use Rattle.rights.specs.Rights.{isRights, rightsOf}
-use Rattle.values.specs.Points.{noPoint}
-use Rattle.strings.specs.declared.name.Name.{Name}
-use Rattle.values.specs.declared.day.Day.{Day}
+use Rattle.points.specs.Points.{noPoint}
+use Rattle.names.specs.declared.Name.{Name}
+use Rattle.days.specs.declared.Day.{Day}
 use Rattle.rights.specs.declared.Rights.{Rights}
-use Rattle.values.specs.declared.word.Word.{Word}
-use Rattle.values.specs.declared.word.Word.the-variants.{Done, Data}
 use Rattle.certificate.specs.declared.Place.{Place}
 use Rattle.certificate.specs.declared.Reading.{Reading}
-use Rattle.certificate.specs.declared.Answer.{Answer}
-use Rattle.certificate.specs.declared.Answer.the-variants.{Read, Unread}
-
--- the word of an answer: its fields, or 6A80
-abbrev pub answerWord : Answer → Word
-answerWord Read = Done
-answerWord Unread = Data
+use Rattle.status.specs.declared.Intake.the-variants.{Accepted, Unfit}
 
 -- no body, and a body of n objects
 abbrev pub noPlace : Place
 noPlace = record { start = 0; end = 0 }
 
 unfoldable pub unread : Reading
-unread = record { answer = Unread; body = record { issuer = noName; point = noPoint; key = noPlace; ext = noPlace; count = 0 } }
+unread = record { answer = Unfit; body = record { issuer = noName; point = noPoint; key = noPlace; ext = noPlace; count = 0 } }
 
 abbrev pub read : Name → Place → Name → Rights → Day → Day → Place → ℕ → Reading
 read issuer key own rights first last ext n =
     record {
-      answer = Read;
+      answer = Accepted;
       body = record { issuer = issuer; point = record { name = own; rights = rights; first = first; last = last; key = 0 }; key = key; ext = ext; count = n };
     }
 

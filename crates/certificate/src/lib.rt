@@ -1,23 +1,23 @@
 // The body of a certificate, 7F4E: one pass over its objects, each field taken as it passes.
+use days::Dated;
+use days::Day;
+use days::day_of;
+use names::Name;
+use names::is_name;
 use objects::Count;
 use objects::Found;
+use points::Point;
 use rights::Granted;
 use rights::Rights;
 use rights::rights_of;
-use strings::bytes::same;
-use strings::name::Name;
-use strings::name::is_name;
-use values::day::Dated;
-use values::day::Day;
-use values::day::day_of;
-use values::point::Point;
-use values::word::Word;
+use status::Intake;
+use strings::same;
 ghost use mathlib.Core.Path.{_≡_};
 ghost use Prim.Native.Nat.{_+_, _≤_};
 ghost use lib.ListN.{length};
 ghost use Rattle.objects.specs.Objects.{allowance, objectsAt};
 ghost use Rattle.objects.specs.Chain.{counted};
-ghost use Rattle.certificate.specs.Body.{read, unread, answerWord, isSigned, keyObjects, bodyOf, signedOf, versionThen, issuerThen, keyThen, ownThen, rightsThen, firstThen, lastThen, extThen};
+ghost use Rattle.certificate.specs.Body.{read, unread, isSigned, keyObjects, bodyOf, signedOf, versionThen, issuerThen, keyThen, ownThen, rightsThen, firstThen, lastThen, extThen};
 
 // Where an object stands, from its first byte up to its end; 0 and 0 where there is none.
 pub struct Place {
@@ -35,26 +35,9 @@ pub struct Body {
     pub count: usize,
 }
 
-pub enum Answer {
-    Read,
-    Unread,
-}
-
-impl Answer {
-    // The word of a reading alone: 9000, or 6A80.
-    pub fn word(self) -> Word
-        ensures { λ r. ⌜ r ≡ answerWord self ⌝ }
-    {
-        match self {
-            Answer::Read => Word::Done,
-            Answer::Unread => Word::Data,
-        }
-    }
-}
-
 // A body that was read; `none()` values where it was not.
 pub struct Reading {
-    pub answer: Answer,
+    pub answer: Intake,
     pub body: Body,
 }
 
@@ -91,7 +74,7 @@ impl Reading {
         let issuer = Name::none();
         let point = Point::none();
         Reading {
-            answer: Answer::Unread,
+            answer: Intake::Unfit,
             body: Body {
                 issuer: issuer,
                 point: point,
@@ -331,7 +314,7 @@ fn whole(
         return Reading::none();
     }
     Reading {
-        answer: Answer::Read,
+        answer: Intake::Accepted,
         body: Body {
             issuer: issuer,
             point: Point {

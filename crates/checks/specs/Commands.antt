@@ -2,22 +2,23 @@
 use Prim.Native.Nat.{ℕ}
 use mathlib.Core.Bool.{Bool, false, cond, not, _&&_, _||_}
 use lib.Dec.{eqb}
-use Rattle.strings.specs.Names.{sameName}
-use Rattle.values.specs.Points.{noPoint}
+use Rattle.names.specs.Names.{sameName}
+use Rattle.points.specs.Points.{noPoint}
 use Rattle.rights.specs.Rights.{hasRight, readsGroup}
-use Rattle.strings.specs.declared.name.Name.{Name}
-use Rattle.strings.specs.declared.key.Key.{Key}
+use Rattle.names.specs.declared.Name.{Name}
+use Rattle.keys.specs.declared.Key.{Key}
 use Rattle.run.specs.declared.Choice.{Choice}
 use Rattle.run.specs.declared.Step.{Step}
 use Rattle.run.specs.Run.{passwordOf, isPin, isPuk, stepNumber}
 use Rattle.event.specs.declared.happening.Refusal.the-variants.{Lacking, Moment, Data, NotFound}
 use Rattle.event.specs.declared.happening.Event.{Event}
 use Rattle.event.specs.declared.happening.Event.the-variants.{Refused, Announced as IsAnnounced, Authenticated as IsAuthenticated, ChipLost, ReadAllowed, PinChanged, NotPassed}
-use Rattle.settle.specs.declared.course.Job.the-variants.{Step as StepJob, ChipKey, PinChange}
-use Rattle.settle.specs.declared.course.Course.the-variants.{Settled, Awaits}
-use Rattle.settle.specs.declared.course.Plan.{Plan}
-use Rattle.settle.specs.Course.{settledBy, awaitsBy}
-use Rattle.order.specs.Order.{chooseLadder, passedEvent, otherEvent, grounded, unblockLadder}
+use Rattle.course.specs.declared.Job.the-variants.{Step as StepJob, ChipKey, PinChange}
+use Rattle.course.specs.declared.Course.the-variants.{Settled, Awaits}
+use Rattle.course.specs.declared.Plan.{Plan}
+use Rattle.course.specs.Course.{settledBy, awaitsBy}
+use Rattle.order.specs.Order.{chooseLadder, grounded, unblockLadder}
+use Rattle.outcome.specs.Outcome.{passedEvent, otherEvent}
 use Rattle.fields.specs.declared.asked.Content.{Content}
 use Rattle.fields.specs.declared.asked.Content.the-variants.{Step as StepData, Chip}
 use Rattle.standing.specs.declared.Stage.{Stage}
@@ -25,7 +26,7 @@ use Rattle.standing.specs.declared.Stage.the-variants.{Idle, Run, Announced, Ch
 use Rattle.session.specs.declared.Context.{Context}
 use Rattle.standing.specs.declared.Opened.{Opened}
 use Rattle.standing.specs.Standing.{openedByPin, openedByCan, openedByPuk}
-use Rattle.grounds.specs.Authorization.{authorization}
+use Rattle.authorization.specs.Authorization.{authorization}
 
 -- "Bit 5 is that of the effective authorization"
 abbrev pub managesPin : Context → Bool

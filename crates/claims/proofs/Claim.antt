@@ -3,37 +3,37 @@ use mathlib.Core.Path.{refl}
 use Rattle.objects.specs.Objects.{objectsIn, objects, objectsOf, foundIn, headerOf, tagOf, tag2, lenOf, len1, len2}
 use Rattle.objects.specs.Chain.{counted, taken}
 use Rattle.strings.specs.Bytes.{copiedInto}
-use Rattle.strings.specs.Names.{isName, nameOf, noName, nameFits, sameName}
-use Rattle.strings.specs.Keys.{keyOf, noKey, keyFits, keyStands}
-use Rattle.values.specs.Days.{isDate, dayFits, isDay, before, later}
+use Rattle.names.specs.Names.{isName, nameOf, noName, nameFits, sameName}
+use Rattle.keys.specs.Keys.{keyOf, noKey, keyFits, keyStands}
+use Rattle.days.specs.Days.{isDate, dayFits, isDay, before, later}
 use Rattle.rights.specs.Rights.{rightsFit, roleOf, isRights, andOf, common, groupMask, readsGroup}
-use Rattle.values.specs.Points.{noPoint, pointFits, expired, withKey}
-use Rattle.values.specs.Words.{number}
+use Rattle.points.specs.Points.{noPoint, pointFits, expired, withKey}
+use Rattle.status.specs.Words.{number}
 use Rattle.certificate.specs.Body.{isKey, isSignature, wholeOf, signedWhole, signedOf, versionThen, issuerThen, keyThen, ownThen, rightsThen, firstThen, lastThen, extThen}
 use Rattle.command.specs.Form.{formOf, afterHeader, bodyOf, extendedOf, shortOf, longOf, afterShort, afterLong}
 use Rattle.command.specs.Kind.{kindOf}
 use Rattle.command.specs.Shape.{shapeOf, headedOf}
 use Rattle.event.specs.Event.{wordOf}
-use Rattle.settle.specs.Course.{settledBy, awaitsBy}
+use Rattle.course.specs.Course.{settledBy, awaitsBy}
 use Rattle.settle.specs.Settle.{endsBy, passesBy, judgedOf, awaitedOf, courseOf}
 use Rattle.fields.specs.Taking.{reading, lastly, fitted, lastOf, holds}
 use Rattle.fields.specs.Given.{only, verifying}
 use Rattle.fields.specs.Choice.{choiceOf, protocolThen, passwordThen, chosenBy}
 use Rattle.fields.specs.Choice as choice
 use Rattle.fields.specs.Held.{generalOf, heldIn}
-use Rattle.fields.specs.Names.{verified, verifyOf}
+use Rattle.fields.specs.Issuers.{verified, verifyOf}
 use Rattle.fields.specs.Asked.{dataOf, asking, askedOf}
 use Rattle.reply.specs.Bytes.{lengthBytes, object}
 use Rattle.reply.specs.Reply as reply
 use Rattle.trust.specs.Trust.{anchorFits, onePoint, pointsFit, knows, found, linked}
 use Rattle.standing.specs.Standing.{noChain}
-use Rattle.grounds.specs.Moment.{momentOf}
-use Rattle.grounds.specs.Fits.{rootFits, dvFits, terminalFits, chainFits, groundFits, contextFits}
-use Rattle.grounds.specs.Authorization.{sharedBy, authorization}
+use Rattle.moment.specs.Moment.{momentOf}
+use Rattle.bounds.specs.Fits.{rootFits, dvFits, terminalFits, chainFits, groundFits, contextFits}
+use Rattle.authorization.specs.Authorization.{sharedBy, authorization}
 use Rattle.token.specs.State.{startOf}
 use Rattle.token.specs.Limits.{inLimits}
 use Rattle.checks.specs.Commands.{choosePlan, runPlan, generalPlan, readPlan}
-use Rattle.checks.specs.Certify.{repeats, late, underCourse, underPlan, verifyPlan}
+use Rattle.certify.specs.Certify.{repeats, late, underCourse, underPlan, verifyPlan}
 use Rattle.token.specs.Plan.{commandOf, timedOf, requestedOf, guarded, planOf}
 use Rattle.token.specs.After.{choiceTaken, runClosed, trialLost, linkTaken, dvTaken, terminalTaken, afterOf}
 use Rattle.answer.specs.Answer.{layoutOf, replyTo}

@@ -7,12 +7,12 @@ use mathlib.Core.List.{List, [], _∷_}
 use lib.ListN.{replicate}
 use Rattle.objects.specs.Objects.{headerOf}
 use Rattle.objects.specs.declared.Head.the-variants.{Header, NoHeader}
-use Rattle.strings.specs.Names.{nameOf}
-use Rattle.strings.specs.Keys.{keyOf}
-use Rattle.values.specs.Points.{noPoint}
+use Rattle.names.specs.Names.{nameOf}
+use Rattle.keys.specs.Keys.{keyOf}
+use Rattle.points.specs.Points.{noPoint}
 use Rattle.rights.specs.Rights.{common, groupMask, readsGroup}
-use Rattle.strings.specs.declared.name.Name.{Name}
-use Rattle.values.specs.declared.point.Point.{Point}
+use Rattle.names.specs.declared.Name.{Name}
+use Rattle.points.specs.declared.Point.{Point}
 use Rattle.rights.specs.declared.Rights.{Rights}
 use Rattle.rights.specs.declared.Granted.the-variants.{These, NoRights}
 use Rattle.run.specs.declared.Password.{Password}
@@ -21,10 +21,10 @@ use Rattle.run.specs.declared.Choice.the-variants.{Pin as ChosenPin}
 use Rattle.run.specs.declared.Step.the-variants.{Confirm}
 use Rattle.event.specs.declared.happening.Issuer.{Issuer}
 use Rattle.event.specs.declared.happening.Issuer.the-variants.{Newest, Dv}
-use Rattle.settle.specs.declared.course.Note.the-variants.{Plain, Protected}
-use Rattle.settle.specs.declared.course.Job.the-variants.{Nothing, Step, Certificate}
-use Rattle.settle.specs.declared.verdict.Answered.{Answered}
-use Rattle.settle.specs.declared.verdict.Verdict.the-variants.{Passed, Failed, Missing}
+use Rattle.course.specs.declared.Note.the-variants.{Plain, Protected}
+use Rattle.course.specs.declared.Job.the-variants.{Nothing, Step, Certificate}
+use Rattle.settle.specs.declared.Answered.{Answered}
+use Rattle.settle.specs.declared.Verdict.the-variants.{Passed, Failed, Missing}
 use Rattle.trust.specs.Trust.{onePoint}
 use Rattle.standing.specs.declared.Opened.{Opened}
 use Rattle.standing.specs.declared.Opened.the-variants.{Nobody, By}
@@ -36,7 +36,7 @@ use Rattle.session.specs.declared.Context.{Context}
 use Rattle.session.specs.declared.Session.{Session}
 use Rattle.standing.specs.Standing.{noChain}
 use Rattle.session.specs.Session.{bareSession, chainedTo, announcedWith, atStage, selecting}
-use Rattle.grounds.specs.Authorization.{authorization}
+use Rattle.authorization.specs.Authorization.{authorization}
 use Rattle.token.specs.declared.state.Token.{Token}
 use Rattle.token.specs.State.{startOf, withPin, withSession}
 use Rattle.token.specs.Step.{Stepped, stepOf}

@@ -2,8 +2,8 @@
 use Prim.Native.Nat.{ℕ}
 use mathlib.Core.Bool.{cond, _&&_}
 use lib.Dec.{ltb}
-use Rattle.values.specs.declared.word.Word.{Word}
-use Rattle.values.specs.declared.word.Word.the-variants.{Done, Tries, NotPassed as BadVerdict, Length as W6700, Lacking as W6982, Blocked as W6983, Expired as W6984, Moment as W6985, Unprotected as W6987, Broken as W6988, Data as W6A80, Parameters as W6A86, NotFound as W6A88, Instruction as W6D00, Class as W6E00, Outside as W6F00}
+use Rattle.status.specs.declared.Word.{Word}
+use Rattle.status.specs.declared.Word.the-variants.{Done, Tries, NotPassed as BadVerdict, Length as W6700, Lacking as W6982, Blocked as W6983, Expired as W6984, Moment as W6985, Unprotected as W6987, Broken as W6988, Data as W6A80, Parameters as W6A86, NotFound as W6A88, Instruction as W6D00, Class as W6E00, Outside as W6F00}
 use Rattle.run.specs.declared.Choice.{Choice}
 use Rattle.event.specs.declared.happening.Refusal.{Refusal}
 use Rattle.event.specs.declared.happening.Refusal.the-variants.{Length, Lacking, Blocked, Expired, Moment, Data, Parameters, NotFound, Instruction, Class, Outside}

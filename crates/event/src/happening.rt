@@ -4,7 +4,7 @@ ghost use Rattle.event.specs.Event.{refusalWord, lossWord, chosenWord, w
 use rights::Rights;
 use run::Choice;
 use run::Step;
-use values::word::Word;
+use status::Word;
 
 // Why a command changes nothing.
 pub enum Refusal {

@@ -6,8 +6,8 @@ use mathlib.Core.List.{List, [], _∷_, _++_}
 use lib.ListN.{replicate}
 use Rattle.objects.specs.Objects.{objectsIn, objects, objectsOf, foundIn, headerOf, tagOf, tag2, lenOf, len1}
 use Rattle.objects.specs.Chain.{taken}
-use Rattle.strings.specs.Names.{isName, nameOf}
-use Rattle.strings.specs.Keys.{isKey, keyOf}
+use Rattle.names.specs.Names.{isName, nameOf}
+use Rattle.keys.specs.Keys.{isKey, keyOf}
 use Rattle.rights.specs.Rights.{isRights, granted}
 use Rattle.command.specs.Form.{formOf, afterHeader, bodyOf, shortOf, afterShort}
 use Rattle.command.specs.Kind.{kindOf}
@@ -20,7 +20,7 @@ use Rattle.fields.specs.Taking.{reading, lastly, fitted, lastOf, holds}
 use Rattle.fields.specs.Given.{bad, selecting, announcing}
 use Rattle.fields.specs.Choice.{choiceOf, protocolThen, passwordThen, rightsThen, chosenBy}
 use Rattle.fields.specs.Held.{generalOf, heldIn}
-use Rattle.fields.specs.Names.{selectOf}
+use Rattle.fields.specs.Issuers.{selectOf}
 use Rattle.fields.specs.Announce.{announceOf, terminalThen, auxiliaryThen, keyThen}
 use Rattle.fields.specs.Announce as announce
 use Rattle.fields.specs.Chip.{chipOf, referenceIn}

@@ -12,24 +12,25 @@ use Rattle.objects.specs.Objects.{part, objectsIn, foundIn}
 use Rattle.objects.specs.Chain.{taken}
 use Rattle.objects.proofs.Chain.{taken-all, answered-all}
 use Rattle.strings.specs.Bytes.{allOf, longest}
-use Rattle.strings.specs.Names.{isName, nameOf, noName, nameFits}
-use Rattle.values.specs.Points.{noPoint, pointFits}
-use Rattle.strings.specs.Keys.{isKey, keyOf, noKey, keyFits, keyStands}
+use Rattle.names.specs.Names.{isName, nameOf, noName, nameFits}
+use Rattle.points.specs.Points.{noPoint, pointFits}
+use Rattle.keys.specs.Keys.{isKey, keyOf, noKey, keyFits, keyStands}
 use Rattle.rights.specs.Rights.{isRights, rightsOf, granted, rightsFit}
-use Rattle.strings.proofs.Kept.{name-good, key-good, key-there}
+use Rattle.names.proofs.Kept.{name-good}
+use Rattle.keys.proofs.Kept.{key-good, key-there}
 use Rattle.rights.proofs.Kept.{rights-good}
-use Rattle.strings.specs.declared.bytes.Class.the-variants.{Numeral}
-use Rattle.strings.specs.declared.name.Name.{Name}
-use Rattle.values.specs.declared.point.Point.{Point}
-use Rattle.strings.specs.declared.key.Key.{Key}
+use Rattle.strings.specs.declared.Class.the-variants.{Numeral}
+use Rattle.names.specs.declared.Name.{Name}
+use Rattle.points.specs.declared.Point.{Point}
+use Rattle.keys.specs.declared.Key.{Key}
 use Rattle.rights.specs.declared.Rights.{Rights}
 use Rattle.rights.specs.declared.Granted.the-variants.{These, NoRights}
 use Rattle.run.specs.Run.{rightsNamed}
 use Rattle.run.specs.declared.Choice.{Choice}
 use Rattle.run.specs.declared.Choice.the-variants.{Mrz, Can, CanFor, Pin, PinFor, Puk}
 use Rattle.certificate.specs.Body.{signedOf, isSignature}
-use Rattle.certificate.specs.declared.Answer.{Answer}
-use Rattle.certificate.specs.declared.Answer.the-variants.{Read as WasRead, Unread}
+use Rattle.status.specs.declared.Intake.{Intake}
+use Rattle.status.specs.declared.Intake.the-variants.{Accepted as WasRead, Unfit}
 use Rattle.certificate.proofs.Good.{signed-good}
 use Rattle.command.specs.Shape.{shapeOf}
 use Rattle.command.specs.declared.kind.Kind.{Kind}
@@ -40,7 +41,7 @@ use Rattle.fields.specs.Taking.{reading, lastly, any, isAll, sized, hold
 use Rattle.fields.specs.Given.{only, bad, selecting, verifying, announcing}
 use Rattle.fields.specs.Choice.{pace, chosen, chosenBy, rightsThen, passwordThen, protocolThen, choiceOf}
 use Rattle.fields.specs.Held.{heldIn, generalOf}
-use Rattle.fields.specs.Names.{selectOf, verified, verifyOf}
+use Rattle.fields.specs.Issuers.{selectOf, verified, verifyOf}
 use Rattle.fields.specs.Announce.{terminal, pastAuxiliary, keyThen, auxiliaryThen, terminalThen, announceOf}
 use Rattle.fields.specs.Announce as announce
 use Rattle.fields.specs.Chip.{chip, referenceIn, chipOf}
@@ -225,9 +226,9 @@ verify-sound : (s : List ℕ) → Sound VerifyCertificate (verifyOf s)
 unfolding verifyOf verified verifying
 verify-sound s = go (signedOf s .answer) refl
   where
-    go : (a : Answer) → signedOf s .answer ≡ a → Sound VerifyCertificate (verified a (signedOf s .body))
+    go : (a : Intake) → signedOf s .answer ≡ a → Sound VerifyCertificate (verified a (signedOf s .body))
     go WasRead e = let g = signed-good s e in record { of = of-verify; limits = (g .point, g .issuer) }
-    go Unread e = sound-bad VerifyCertificate
+    go Unfit e = sound-bad VerifyCertificate
 
 key-sound : (name : Name) → nameFits name ≡ true → (s : List ℕ) (n : ℕ) → Sound KindAnnounce (keyThen name s n)
 unfolding keyThen announcing

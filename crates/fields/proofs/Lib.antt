@@ -2,5 +2,4 @@ pub mod Links
 pub mod Ways
 pub mod Groups
 pub mod Facts
-pub mod Pinned
 pub mod Examples

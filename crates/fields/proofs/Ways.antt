@@ -26,15 +26,15 @@ use Rattle.objects.proofs.Sizes.{found-sizes, part-length}
 use Rattle.objects.proofs.Counts.{kept-objects}
 use Rattle.objects.proofs.Chain.{rest, none-counts, found-start, found-end, nest-counts, nest-refused, counted-plus}
 use Rattle.strings.specs.Bytes.{among, allOf, longest}
-use Rattle.strings.specs.declared.bytes.Class.the-variants.{Numeral}
-use Rattle.strings.specs.Names.{isName, noName, nameOf}
-use Rattle.values.specs.Points.{noPoint}
-use Rattle.strings.specs.Keys.{noKey, keyOf}
+use Rattle.strings.specs.declared.Class.the-variants.{Numeral}
+use Rattle.names.specs.Names.{isName, noName, nameOf}
+use Rattle.points.specs.Points.{noPoint}
+use Rattle.keys.specs.Keys.{noKey, keyOf}
 use Rattle.rights.specs.Rights.{isRights, granted, rightsOf}
 use Rattle.certificate.proofs.Contents.{rights-count}
-use Rattle.strings.specs.declared.name.Name.{Name}
-use Rattle.values.specs.declared.point.Point.{Point}
-use Rattle.strings.specs.declared.key.Key.{Key}
+use Rattle.names.specs.declared.Name.{Name}
+use Rattle.points.specs.declared.Point.{Point}
+use Rattle.keys.specs.declared.Key.{Key}
 use Rattle.rights.specs.declared.Rights.{Rights}
 use Rattle.rights.specs.declared.Granted.{Granted}
 use Rattle.rights.specs.declared.Granted.the-variants.{These, NoRights}
@@ -46,13 +46,13 @@ use Rattle.command.specs.declared.Shape.the-variants.{Command, Faulty}
 use Rattle.command.proofs.Shapes.{data-starts, data-ends}
 use Rattle.certificate.specs.Body.{signedOf}
 use Rattle.certificate.specs.declared.Reading.{Reading}
-use Rattle.certificate.specs.declared.Answer.the-variants.{Read, Unread}
+use Rattle.status.specs.declared.Intake.the-variants.{Accepted, Unfit}
 use Rattle.event.specs.declared.happening.Refusal.{Refusal}
 use Rattle.fields.specs.Taking.{sized, fitted, lastOf, holds}
 use Rattle.fields.specs.Given.{only, bad, selecting, verifying, announcing}
 use Rattle.fields.specs.Choice.{passwordThen, rightsThen, chosen, chosenFor, chosenBy}
 use Rattle.fields.specs.Held.{heldIn, generalOf}
-use Rattle.fields.specs.Names.{verified, verifyOf}
+use Rattle.fields.specs.Issuers.{verified, verifyOf}
 use Rattle.fields.specs.Announce.{keyThen, auxiliaryThen, terminalThen}
 use Rattle.fields.specs.Chip.{referenceIn}
 use Rattle.fields.specs.Plain.{pinOf}
@@ -273,11 +273,11 @@ pub announce-on : (c : List ℕ) (n : Name) (k : Key) (x : Given) → k ≡ keyO
 announce-on c n k x e y = y ∙ ap (announcing n) e
 
 module _ (s : List ℕ) (r : Reading) (is : r ≡ signedOf s) (x : Given) where
-  pub verify-on : r .answer ≡ Read → x ≡ verifying (r .body .issuer) (r .body .point) → x ≡ verifyOf s
+  pub verify-on : r .answer ≡ Accepted → x ≡ verifying (r .body .issuer) (r .body .point) → x ≡ verifyOf s
   unfolding verifyOf verified
   verify-on e y = y ∙ rw (← is, e)
 
-  pub verify-off : r .answer ≡ Unread → x ≡ bad → x ≡ verifyOf s
+  pub verify-off : r .answer ≡ Unfit → x ≡ bad → x ≡ verifyOf s
   unfolding verifyOf verified
   verify-off e y = y ∙ rw (← is, e)
 

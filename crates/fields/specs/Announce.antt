@@ -9,9 +9,9 @@ use Rattle.objects.specs.Objects.{foundIn}
 use Rattle.objects.specs.Chain.{taken}
 use Rattle.objects.specs.declared.Found.{Found}
 use Rattle.objects.specs.declared.Found.the-variants.{Content, Missing}
-use Rattle.strings.specs.Names.{isName, nameOf}
-use Rattle.strings.specs.Keys.{isKey, keyOf}
-use Rattle.strings.specs.declared.name.Name.{Name}
+use Rattle.names.specs.Names.{isName, nameOf}
+use Rattle.keys.specs.Keys.{isKey, keyOf}
+use Rattle.names.specs.declared.Name.{Name}
 use Rattle.fields.specs.Taking.{reading, lastly, isAll}
 use Rattle.fields.specs.Given.{bad, announcing}
 use Rattle.fields.specs.declared.given.Given.{Given}

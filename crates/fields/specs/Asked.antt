@@ -3,9 +3,9 @@ use Prim.Native.Nat.{ℕ}
 use mathlib.Core.List.{List}
 use mathlib.Core.Bool.{Bool}
 use Rattle.objects.specs.Objects.{part}
-use Rattle.strings.specs.Names.{noName}
-use Rattle.values.specs.Points.{noPoint}
-use Rattle.strings.specs.Keys.{noKey}
+use Rattle.names.specs.Names.{noName}
+use Rattle.points.specs.Points.{noPoint}
+use Rattle.keys.specs.Keys.{noKey}
 use Rattle.command.specs.Shape.{shapeOf}
 use Rattle.command.specs.declared.kind.Kind.{Kind}
 use Rattle.command.specs.declared.kind.Kind.the-variants.{ChoosePassword, General, SelectIssuer, VerifyCertificate, Announce, Challenge, ProveTerminal, ChooseChipKey, Read, ChangePin, Unblock, Activate, Deactivate}
@@ -18,7 +18,7 @@ use Rattle.event.specs.declared.happening.Refusal.the-variants.{Length as W6700
 use Rattle.fields.specs.Given.{only}
 use Rattle.fields.specs.Choice.{choiceOf}
 use Rattle.fields.specs.Held.{generalOf}
-use Rattle.fields.specs.Names.{selectOf, verifyOf}
+use Rattle.fields.specs.Issuers.{selectOf, verifyOf}
 use Rattle.fields.specs.Announce.{announceOf}
 use Rattle.fields.specs.Chip.{chipOf}
 use Rattle.fields.specs.Plain.{proofOf, pinOf}

@@ -1,10 +1,10 @@
 -- What the data of a command give: what is asked, and what goes with it. Assumes nothing: these are definitions.
-use Rattle.strings.specs.Names.{noName}
-use Rattle.values.specs.Points.{noPoint}
-use Rattle.strings.specs.Keys.{noKey}
-use Rattle.strings.specs.declared.name.Name.{Name}
-use Rattle.values.specs.declared.point.Point.{Point}
-use Rattle.strings.specs.declared.key.Key.{Key}
+use Rattle.names.specs.Names.{noName}
+use Rattle.points.specs.Points.{noPoint}
+use Rattle.keys.specs.Keys.{noKey}
+use Rattle.names.specs.declared.Name.{Name}
+use Rattle.points.specs.declared.Point.{Point}
+use Rattle.keys.specs.declared.Key.{Key}
 use Rattle.fields.specs.declared.asked.Ask.{Ask}
 use Rattle.fields.specs.declared.asked.Ask.the-variants.{Bad, Select, Verify, Announce}
 use Rattle.fields.specs.declared.given.Given.{Given}

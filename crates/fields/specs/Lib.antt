@@ -2,7 +2,7 @@ pub mod Taking
 pub mod Given
 pub mod Choice
 pub mod Held
-pub mod Names
+pub mod Issuers
 pub mod Announce
 pub mod Chip
 pub mod Plain

@@ -5,7 +5,7 @@ use mathlib.Core.Bool.{cond, _&&_}
 use lib.ListN.{length}
 use lib.Dec.{eqb}
 use Rattle.strings.specs.Bytes.{allOf}
-use Rattle.strings.specs.declared.bytes.Class.the-variants.{Numeral}
+use Rattle.strings.specs.declared.Class.the-variants.{Numeral}
 use Rattle.certificate.specs.Body.{isSignature}
 use Rattle.fields.specs.declared.asked.Ask.{Ask}
 use Rattle.fields.specs.declared.asked.Ask.the-variants.{Bad, Prove, ChangePin}

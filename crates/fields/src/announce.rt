@@ -3,7 +3,7 @@ ghost use mathlib.Core.Path.{_≡_};
 ghost use mathlib.Core.Bool.{false};
 ghost use Rattle.objects.specs.Objects.{objectsAt};
 ghost use Rattle.objects.specs.Chain.{counted};
-ghost use Rattle.strings.specs.Keys.{isKey};
+ghost use Rattle.keys.specs.Keys.{isKey};
 ghost use Rattle.fields.specs.Taking.{fitted};
 ghost use Rattle.fields.specs.Given.{bad};
 ghost use Rattle.fields.specs.Announce.{announceOf, terminalThen, auxiliaryThen, keyThen};
@@ -13,10 +13,10 @@ use super::taking::identified;
 use super::taking::last;
 use super::taking::named;
 use super::taking::sized;
+use keys::Key;
+use names::Name;
 use objects::Count;
 use objects::Found;
-use strings::key::Key;
-use strings::name::Name;
 
 const TERMINAL: [u8; 10] = [4, 0, 0x7F, 0, 7, 2, 2, 2, 2, 3];
 

@@ -1,11 +1,11 @@
 // What a command may ask for.
 use command::kind::Kind;
 use event::happening::Refusal;
+use keys::Key;
+use names::Name;
+use points::Point;
 use run::Choice;
 use run::Step;
-use strings::key::Key;
-use strings::name::Name;
-use values::point::Point;
 
 // What a 7C holds: the data of a run step, or of the chip key.
 pub enum Content {

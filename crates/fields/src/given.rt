@@ -2,9 +2,9 @@
 ghost use mathlib.Core.Path.{_≡_};
 ghost use Rattle.fields.specs.Given.{only, selecting, verifying, announcing};
 use super::asked::Ask;
-use strings::key::Key;
-use strings::name::Name;
-use values::point::Point;
+use keys::Key;
+use names::Name;
+use points::Point;
 
 pub struct Given {
     pub ask: Ask,

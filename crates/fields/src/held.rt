@@ -7,7 +7,7 @@ use super::taking::holds;
 use super::taking::last;
 use objects::Found;
 use run::Step;
-use strings::bytes::STRING;
+use strings::STRING;
 
 // The bytes of a token that confirms.
 const TOKEN: usize = 8;

@@ -9,9 +9,9 @@ use command::Shape;
 use command::kind::Kind;
 use event::happening::Refusal;
 use given::Given;
-use strings::key::Key;
-use strings::name::Name;
-use values::point::Point;
+use keys::Key;
+use names::Name;
+use points::Point;
 
 mod announce;
 pub mod asked;
@@ -19,7 +19,7 @@ mod chip;
 mod choice;
 mod given;
 mod held;
-mod names;
+mod issuers;
 mod plain;
 mod taking;
 
@@ -43,8 +43,8 @@ fn data(kind: Kind, s: &[u8]) -> Given
     match kind {
         Kind::ChoosePassword => Given::only(choice::choice(s)),
         Kind::General => Given::only(held::general(s)),
-        Kind::SelectIssuer => names::select(s),
-        Kind::VerifyCertificate => names::verify(s),
+        Kind::SelectIssuer => issuers::select(s),
+        Kind::VerifyCertificate => issuers::verify(s),
         Kind::Announce => announce::announce(s),
         Kind::Challenge => Given::only(Ask::Challenge),
         Kind::ProveTerminal => Given::only(plain::proof(s)),

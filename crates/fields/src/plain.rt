@@ -2,8 +2,8 @@
 ghost use mathlib.Core.Path.{_≡_};
 ghost use Rattle.fields.specs.Plain.{proofOf, pinOf};
 use super::asked::Ask;
-use strings::bytes::Class;
-use strings::bytes::all;
+use strings::Class;
+use strings::all;
 
 // The digits of a PIN.
 const DIGITS: usize = 6;

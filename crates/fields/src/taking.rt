@@ -1,11 +1,11 @@
 // Objects that the data of several commands share, each found at the start of the bytes with a content that fits.
 ghost use mathlib.Core.Path.{_≡_};
 ghost use mathlib.Core.Bool.{false};
-ghost use Rattle.strings.specs.Names.{isName};
+ghost use Rattle.names.specs.Names.{isName};
 ghost use Rattle.fields.specs.Taking.{fitted, lastOf, isAll, sized, holds};
+use names::is_name;
 use objects::Found;
-use strings::bytes::same;
-use strings::name::is_name;
+use strings::same;
 
 // 80 with this identifier.
 pub(crate) fn identified(s: &[u8], id: &[u8]) -> Found

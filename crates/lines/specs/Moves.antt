@@ -3,12 +3,12 @@ use Prim.Native.Nat.{ℕ}
 use mathlib.Core.Path.{_≡_}
 use mathlib.Core.Bool.{true, false}
 use mathlib.Core.List.{List}
-use Rattle.values.specs.declared.day.Day.{Day}
-use Rattle.settle.specs.declared.course.Note.{Note}
-use Rattle.settle.specs.declared.verdict.Answered.{Answered}
+use Rattle.days.specs.declared.Day.{Day}
+use Rattle.course.specs.declared.Note.{Note}
+use Rattle.settle.specs.declared.Answered.{Answered}
 use Rattle.trust.specs.declared.Points.{Points}
 use Rattle.token.specs.declared.state.Token.{Token}
-use Rattle.token.specs.declared.state.Made.the-variants.{Accepted}
+use Rattle.status.specs.declared.Intake.the-variants.{Accepted}
 use Rattle.token.specs.State.{noToken, madeOf, resetOf}
 use Rattle.token.specs.Step.{stepOf}
 use Rattle.lines.specs.declared.Desk.{Desk}

@@ -8,10 +8,10 @@ use certificate::Answer;
 use certificate::Body;
 use certificate::Place;
 use certificate::read_body;
-use strings::name::Name;
+use names::Name;
+use points::Point;
 use text::front;
 use text::put;
-use values::point::Point;
 
 // No extension stands at the start of a body.
 fn place(out: &mut [u8], at: usize, label: &[u8], p: Place) -> usize {

@@ -3,8 +3,8 @@ ghost use mathlib.Core.Path.{_≡_};
 ghost use Prim.Native.Nat.{_≤_};
 ghost use lib.ListN.{length};
 ghost use Rattle.lines.specs.Moves.{emptyDesk, Moved};
-use strings::bytes::clip;
-use strings::bytes::same;
+use strings::clip;
+use strings::same;
 use text::put;
 use token::state::Token;
 

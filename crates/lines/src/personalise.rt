@@ -12,15 +12,15 @@ use super::words::number;
 use super::words::spaces;
 use super::words::string;
 use super::words::word;
+use days::Day;
+use names::Name;
+use points::Point;
 use rights::Rights;
-use strings::name::Name;
 use text::front;
 use text::number::Radix;
 use token::state::Made;
 use token::state::Personalised;
 use token::state::Token;
-use values::day::Day;
-use values::point::Point;
 
 // A trust point that five words state; not good where a word is not one.
 struct Trusted {

@@ -1,13 +1,13 @@
 // Values as the desk writes them, each after its label; the place after them.
+use days::Day;
+use names::Name;
 use rights::Rights;
-use strings::name::Name;
 use text::front;
 use text::hex::put_hex;
 use text::number::Radix;
 use text::number::put_decimal;
 use text::number::put_digits;
 use text::put;
-use values::day::Day;
 
 pub(crate) fn number(out: &mut [u8], at: usize, label: &[u8], n: u64) -> usize {
     let next = put(&mut *out, at, label);

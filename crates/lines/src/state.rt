@@ -2,8 +2,9 @@
 use super::say;
 use super::words::label;
 use super::words::spaces;
+use authorization::authorization;
+use days::Day;
 use event::happening::Issuer;
-use grounds::authorization::authorization;
 use rights::Granted;
 use rights::Rights;
 use run::Password;
@@ -14,7 +15,6 @@ use standing::Stage;
 use text::put;
 use token::state::Token;
 use trust::Points;
-use values::day::Day;
 
 fn counters(out: &mut [u8], pin: u8, active: bool, puk: u8) -> usize {
     let a = say::number(&mut *out, 0, b"pin=", pin as u64);

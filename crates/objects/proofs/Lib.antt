@@ -6,4 +6,3 @@ pub mod Examples
 pub mod Chain
 pub mod Append
 pub mod Reading
-pub mod Pinned

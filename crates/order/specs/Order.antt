@@ -1,22 +1,14 @@
 -- The order of each command's own checks, after moment and data: "6982; 6A88; 6983; 6984; verdict", and the exceptions that
 -- stand with the commands. Assumes nothing: these are definitions.
-use Prim.Native.Nat.{ℕ, _-_}
+use Prim.Native.Nat.{ℕ}
 use mathlib.Core.Bool.{Bool, cond, not, _&&_, _||_}
-use Rattle.rights.specs.Rights.{isTerminal}
-use Rattle.rights.specs.declared.Rights.{Rights}
-use Rattle.rights.specs.declared.Role.{Role}
-use Rattle.rights.specs.declared.Role.the-variants.{Cvca, OfficialDv, OtherDv, Terminal}
 use Rattle.run.specs.declared.Choice.{Choice}
-use Rattle.run.specs.declared.Step.{Step}
-use Rattle.run.specs.Run.{passwordOf, isPin, isLast}
 use Rattle.event.specs.declared.happening.Refusal.the-variants.{Lacking, Blocked, Expired, Moment, Data, NotFound}
-use Rattle.event.specs.declared.happening.Issuer.{Issuer}
-use Rattle.event.specs.declared.happening.Issuer.the-variants.{Newest, Previous, Dv}
 use Rattle.event.specs.declared.happening.Event.{Event}
-use Rattle.event.specs.declared.happening.Event.the-variants.{Refused, Chosen, StepPassed, Opened, RunClosed, TrialLost, LinkTaken, DvTaken, TerminalTaken, UnblockedByPuk, UnblockedByRight, NotPassed}
-use Rattle.settle.specs.declared.course.Job.the-variants.{Certificate}
-use Rattle.settle.specs.declared.course.Course.{Course}
-use Rattle.settle.specs.declared.course.Course.the-variants.{Settled, Awaits}
+use Rattle.event.specs.declared.happening.Event.the-variants.{Refused, Chosen, UnblockedByPuk, UnblockedByRight, NotPassed}
+use Rattle.course.specs.declared.Job.the-variants.{Certificate}
+use Rattle.course.specs.declared.Course.{Course}
+use Rattle.course.specs.declared.Course.the-variants.{Settled, Awaits}
 
 -- "PIN: counter 0 is 6983, inactive 6984, then counter 1 unless the CAN opened this session is 6985. PUK with no uses is 6983."
 abbrev pub chooseLadder : Bool → Bool → Bool → Bool → Choice → ℕ → Event
@@ -26,31 +18,6 @@ chooseLadder spent inactive lone used c left =
     (cond lone (Refused Moment)
     (cond used (Refused Blocked)
     (Chosen c left))))
-
--- "Fourth: passed opens the session afresh"
-abbrev pub passedEvent : Choice → Step → Event
-passedEvent c p = cond (isLast p) (Opened c) (StepPassed c p)
-
--- "otherwise PIN counter down one and 63CX, other passwords 6300, run closed"
-abbrev pub trialOf : Choice → ℕ → Event
-trialOf c pin = cond (isPin (passwordOf c)) (TrialLost (pin - 1)) RunClosed
-
--- "Steps 1 to 3 not passed: 6300, run closed"
-abbrev pub otherEvent : Choice → Step → ℕ → Event
-otherEvent c p pin = cond (isLast p) (trialOf c pin) RunClosed
-
--- "CVCA issues CVCA (link) or DV; DV issues terminal; else 6A80"
-abbrev pub issues : Issuer → Role → Bool
-issues Newest role = not (isTerminal role)
-issues Previous role = not (isTerminal role)
-issues Dv role = isTerminal role
-
--- "a link becomes newest ..; a DV replaces the chain; a terminal its terminal"
-abbrev pub takenEvent : Role → Rights → Event
-takenEvent Cvca root = LinkTaken
-takenEvent OfficialDv root = DvTaken root
-takenEvent OtherDv root = DvTaken root
-takenEvent Terminal root = TerminalTaken
 
 -- "else 6A80. A new name differs from both trust points', a terminal's also from its DV's (6A80)"; "whose name must equal 42
 -- (6A88)"; "Unless it is a link, neither certificate nor issuer may have its last day before today (6984). Not passed: 6300"

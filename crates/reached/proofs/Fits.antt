@@ -7,14 +7,14 @@ use lib.Dec.{eqb, leb}
 use lib.ListN.{length}
 use borrow.Author.Tests.{not-false}
 use Rattle.laws.proofs.Bools.{true-false, and-l, and-7, or-l, of-both}
-use Rattle.strings.specs.Names.{sameName}
-use Rattle.values.specs.Points.{noPoint, withKey}
-use Rattle.values.specs.Days.{dayFits}
-use Rattle.strings.specs.Keys.{noKey}
+use Rattle.names.specs.Names.{sameName}
+use Rattle.points.specs.Points.{noPoint, withKey}
+use Rattle.days.specs.Days.{dayFits}
+use Rattle.keys.specs.Keys.{noKey}
 use Rattle.rights.specs.Rights.{roleOf, isDv, readsGroup}
-use Rattle.strings.specs.declared.name.Name.{Name}
-use Rattle.strings.specs.declared.key.Key.{Key}
-use Rattle.values.specs.declared.point.Point.{Point}
+use Rattle.names.specs.declared.Name.{Name}
+use Rattle.keys.specs.declared.Key.{Key}
+use Rattle.points.specs.declared.Point.{Point}
 use Rattle.rights.specs.declared.Role.{Role}
 use Rattle.rights.specs.declared.Role.the-variants.{Cvca, OfficialDv, OtherDv, Terminal}
 use Rattle.command.specs.declared.kind.Kind.{Kind}
@@ -28,20 +28,21 @@ use Rattle.event.specs.declared.happening.Issuer.{Issuer}
 use Rattle.event.specs.declared.happening.Issuer.the-variants.{Newest, Previous, Dv}
 use Rattle.event.specs.declared.happening.Event.{Event}
 use Rattle.event.specs.declared.happening.Event.the-variants.{Refused, Lost, Chosen, StepPassed, Opened as IsOpened, RunClosed, TrialLost, Selected as IsSelected, LinkTaken, DvTaken, TerminalTaken, Announced as IsAnnounced, Challenged as IsChallenged, Proven as IsProven, ProofLost, ChipKeyChosen as IsChosen, Authenticated as IsAuthenticated, ChipLost, ReadAllowed, PinChanged, UnblockedByPuk, UnblockedByRight, Activated, Deactivated, NotPassed}
-use Rattle.settle.specs.declared.course.Note.{Note}
-use Rattle.settle.specs.declared.course.Guard.{Guard}
-use Rattle.settle.specs.declared.course.Guard.the-variants.{Passes, Drops}
-use Rattle.settle.specs.declared.course.Job.{Job}
-use Rattle.settle.specs.declared.course.Job.the-variants.{Step as StepJob, Challenge as ChallengeJob, Proof, PinChange}
-use Rattle.settle.specs.declared.course.Course.{Course}
-use Rattle.settle.specs.declared.course.Course.the-variants.{Settled, Awaits}
-use Rattle.settle.specs.declared.course.Plan.{Plan}
-use Rattle.settle.specs.declared.verdict.Answered.{Answered}
-use Rattle.settle.specs.declared.verdict.Happened.{Happened}
-use Rattle.settle.specs.Course.{settledBy, awaitsBy, guardOf}
+use Rattle.course.specs.declared.Note.{Note}
+use Rattle.course.specs.declared.Guard.{Guard}
+use Rattle.course.specs.declared.Guard.the-variants.{Passes, Drops}
+use Rattle.course.specs.declared.Job.{Job}
+use Rattle.course.specs.declared.Job.the-variants.{Step as StepJob, Challenge as ChallengeJob, Proof, PinChange}
+use Rattle.course.specs.declared.Course.{Course}
+use Rattle.course.specs.declared.Course.the-variants.{Settled, Awaits}
+use Rattle.course.specs.declared.Plan.{Plan}
+use Rattle.settle.specs.declared.Answered.{Answered}
+use Rattle.settle.specs.declared.Happened.{Happened}
+use Rattle.course.specs.Course.{settledBy, awaitsBy, guardOf}
 use Rattle.settle.specs.Settle.{takenIn, endsBy, passesBy}
 use Rattle.settle.proofs.Settles.{settle-all}
-use Rattle.order.specs.Order.{chooseLadder, passedEvent, otherEvent, issues, takenEvent, verifyLadder, unblockLadder}
+use Rattle.order.specs.Order.{chooseLadder, verifyLadder, unblockLadder}
+use Rattle.outcome.specs.Outcome.{passedEvent, otherEvent, issues, takenEvent}
 use Rattle.trust.specs.Trust.{pointsFit, knows, found, holderOf}
 use Rattle.trust.specs.declared.Points.{Points}
 use Rattle.trust.specs.declared.Anchor.{Anchor}
@@ -60,14 +61,14 @@ use Rattle.standing.specs.declared.Selected.the-variants.{NoIssuer, Of as Chose
 use Rattle.standing.specs.declared.Stage.{Stage}
 use Rattle.standing.specs.declared.Stage.the-variants.{Idle, Run, Announced, Challenged, Proven, ChipKeyChosen, Authenticated}
 use Rattle.standing.specs.Standing.{isOpen, openedByPin, openedByCan, openedByPuk, hasRights, hasDv, hasTerminal, isSelected, rank, unproven}
-use Rattle.grounds.specs.Moment.{momentOf}
-use Rattle.grounds.specs.Authorization.{authorization}
-use Rattle.grounds.specs.Fits.{contextFits}
+use Rattle.moment.specs.Moment.{momentOf}
+use Rattle.authorization.specs.Authorization.{authorization}
+use Rattle.bounds.specs.Fits.{contextFits}
 use Rattle.token.specs.declared.state.Token.{Token}
 use Rattle.token.specs.State.{tries, uses, contextOf, chainOf}
 use Rattle.token.specs.Limits.{selectable, inLimits}
 use Rattle.checks.specs.Commands.{managesPin, isFor, choosePlan, runPlan, chipPlan, generalPlan, announcePlan, readPlan, changePlan, unblockPlan, activePlan}
-use Rattle.checks.specs.Certify.{selectBy, selectPlan, repeats, late, underCourse, underPlan, verifyPlan}
+use Rattle.certify.specs.Certify.{selectBy, selectPlan, repeats, late, underCourse, underPlan, verifyPlan}
 use Rattle.token.specs.Plan.{commandOf, timedOf, requestedOf, guarded, planOf}
 use Rattle.token.specs.Step.{happenedOf}
 

@@ -6,11 +6,11 @@ use mathlib.Core.List.{List, []}
 use lib.Dec.{eqb, ltb}
 use lib.ListN.{length, take}
 use Rattle.laws.proofs.Bools.{true-false, of-both}
-use Rattle.strings.specs.Names.{sameName}
+use Rattle.names.specs.Names.{sameName}
 use Rattle.rights.specs.Rights.{roleOf, readsGroup}
-use Rattle.strings.specs.declared.key.Key.{Key}
-use Rattle.strings.specs.declared.name.Name.{Name}
-use Rattle.values.specs.declared.point.Point.{Point}
+use Rattle.keys.specs.declared.Key.{Key}
+use Rattle.names.specs.declared.Name.{Name}
+use Rattle.points.specs.declared.Point.{Point}
 use Rattle.run.specs.declared.Choice.{Choice}
 use Rattle.run.specs.declared.Step.{Step}
 use Rattle.run.specs.declared.Step.the-variants.{Confirm}
@@ -18,22 +18,24 @@ use Rattle.run.specs.Run.{passwordOf, isPin, isPuk, isLast}
 use Rattle.event.specs.declared.happening.Refusal.{Refusal}
 use Rattle.event.specs.declared.happening.Event.{Event}
 use Rattle.event.specs.declared.happening.Event.the-variants.{Refused, Lost, Chosen, StepPassed, Opened, RunClosed, TrialLost, Selected, LinkTaken, DvTaken, TerminalTaken, Announced, Challenged, Proven, ProofLost, ChipKeyChosen, Authenticated, ChipLost, ReadAllowed, PinChanged, UnblockedByPuk, UnblockedByRight, Activated, Deactivated, NotPassed}
-use Rattle.settle.specs.declared.course.Note.{Note}
-use Rattle.settle.specs.declared.course.Guard.{Guard}
-use Rattle.settle.specs.declared.course.Guard.the-variants.{Passes, Drops}
-use Rattle.settle.specs.declared.course.Job.{Job}
-use Rattle.settle.specs.declared.course.Job.the-variants.{Nothing}
-use Rattle.settle.specs.declared.course.Course.{Course}
-use Rattle.settle.specs.declared.course.Course.the-variants.{Settled, Awaits}
-use Rattle.settle.specs.declared.course.Plan.{Plan}
-use Rattle.settle.specs.declared.verdict.Verdict.{Verdict}
-use Rattle.settle.specs.declared.verdict.Verdict.the-variants.{Passed, Failed, Missing}
-use Rattle.settle.specs.declared.verdict.Answered.{Answered}
-use Rattle.settle.specs.declared.verdict.Happened.{Happened}
-use Rattle.settle.specs.Course.{settledBy, awaitsBy, guardOf, courseJob}
-use Rattle.settle.specs.Settle.{jobNumber, jobFits, matches, endsBy, judgedOf, awaitedOf, courseOf, settleOf}
+use Rattle.course.specs.declared.Note.{Note}
+use Rattle.course.specs.declared.Guard.{Guard}
+use Rattle.course.specs.declared.Guard.the-variants.{Passes, Drops}
+use Rattle.course.specs.declared.Job.{Job}
+use Rattle.course.specs.declared.Job.the-variants.{Nothing}
+use Rattle.course.specs.declared.Course.{Course}
+use Rattle.course.specs.declared.Course.the-variants.{Settled, Awaits}
+use Rattle.course.specs.declared.Plan.{Plan}
+use Rattle.settle.specs.declared.Verdict.{Verdict}
+use Rattle.settle.specs.declared.Verdict.the-variants.{Passed, Failed, Missing}
+use Rattle.settle.specs.declared.Answered.{Answered}
+use Rattle.settle.specs.declared.Happened.{Happened}
+use Rattle.course.specs.Course.{settledBy, awaitsBy, guardOf, courseJob}
+use Rattle.settle.specs.Settle.{jobFits, matches, endsBy, judgedOf, awaitedOf, courseOf, settleOf}
+use Rattle.course.specs.Course.{jobNumber}
 use Rattle.settle.proofs.Settles.{no-influence, settle-all}
-use Rattle.order.specs.Order.{chooseLadder, otherEvent, issues, takenEvent, verifyLadder, grounded, unblockLadder}
+use Rattle.order.specs.Order.{chooseLadder, verifyLadder, grounded, unblockLadder}
+use Rattle.outcome.specs.Outcome.{otherEvent, issues, takenEvent}
 use Rattle.trust.specs.Trust.{found, holderOf}
 use Rattle.trust.specs.declared.Anchor.{Anchor}
 use Rattle.trust.specs.declared.Anchor.the-variants.{Is, Unknown}
@@ -50,14 +52,14 @@ use Rattle.standing.specs.declared.Selected.the-variants.{NoIssuer, Of}
 use Rattle.standing.specs.declared.Stage.{Stage}
 use Rattle.standing.specs.declared.Stage.the-variants.{Idle, Run, Announced as AtAnnounced, Challenged as AtChallenged, Proven as AtProven, ChipKeyChosen as AtChosen, Authenticated as AtAuthenticated}
 use Rattle.standing.specs.Standing.{isOpen, openedByPin, openedByCan, openedByPuk, hasDv}
-use Rattle.grounds.specs.Moment.{momentOf}
-use Rattle.grounds.specs.Authorization.{authorization}
+use Rattle.moment.specs.Moment.{momentOf}
+use Rattle.authorization.specs.Authorization.{authorization}
 use Rattle.reply.specs.Reply.{room}
 use Rattle.token.specs.declared.state.Token.{Token}
 use Rattle.token.specs.State.{tries, contextOf, chainOf}
 use Rattle.token.specs.Limits.{inLimits}
 use Rattle.checks.specs.Commands.{managesPin, isFor, choosePlan, runPlan, chipPlan, generalPlan, announcePlan, readPlan, changePlan, unblockPlan, activePlan}
-use Rattle.checks.specs.Certify.{selectBy, selectPlan, repeats, late, underCourse, underPlan, verifyPlan}
+use Rattle.certify.specs.Certify.{selectBy, selectPlan, repeats, late, underCourse, underPlan, verifyPlan}
 use Rattle.token.specs.Plan.{commandOf, timedOf, requestedOf, guarded, planOf}
 use Rattle.token.specs.After.{afterOf}
 use Rattle.answer.specs.Answer.{replyTo}

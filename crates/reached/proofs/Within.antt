@@ -7,15 +7,15 @@ use native.Mathlib.Omega.{arith}
 use borrow.Author.Tests.{leb-true, le-leb}
 use lib.Dec.{eqb, leb, ltb}
 use Rattle.laws.proofs.Bools.{true-false, and-l, and-r, and-5, or-l, or-then, both, of-both}
-use Rattle.strings.specs.Names.{sameName, nameFits}
-use Rattle.values.specs.Days.{dayFits, before, later}
+use Rattle.names.specs.Names.{sameName, nameFits}
+use Rattle.days.specs.Days.{dayFits, before, later}
 use Rattle.rights.specs.Rights.{rightsFit, roleOf, isCvca, isDv, isOfficial}
-use Rattle.values.specs.Points.{noPoint, pointFits, withKey}
-use Rattle.strings.specs.Keys.{noKey, keyFits, keyStands}
-use Rattle.strings.proofs.Kept.{same-turned}
-use Rattle.values.specs.declared.day.Day.{Day}
-use Rattle.strings.specs.declared.key.Key.{Key}
-use Rattle.values.specs.declared.point.Point.{Point}
+use Rattle.points.specs.Points.{noPoint, pointFits, withKey}
+use Rattle.keys.specs.Keys.{noKey, keyFits, keyStands}
+use Rattle.names.proofs.Kept.{same-turned}
+use Rattle.days.specs.declared.Day.{Day}
+use Rattle.keys.specs.declared.Key.{Key}
+use Rattle.points.specs.declared.Point.{Point}
 use Rattle.rights.specs.declared.Rights.{Rights}
 use Rattle.rights.specs.declared.Role.the-variants.{Cvca, Terminal}
 use Rattle.rights.specs.declared.Granted.{Granted}
@@ -27,8 +27,8 @@ use Rattle.run.specs.declared.Step.the-variants.{Nonce}
 use Rattle.run.specs.Run.{passwordOf, rightsNamed, isPin, isCan, nextStep}
 use Rattle.event.specs.declared.happening.Issuer.{Issuer}
 use Rattle.event.specs.declared.happening.Event.{Event}
-use Rattle.settle.specs.declared.course.Note.{Note}
-use Rattle.settle.specs.declared.verdict.Answered.{Answered}
+use Rattle.course.specs.declared.Note.{Note}
+use Rattle.settle.specs.declared.Answered.{Answered}
 use Rattle.trust.specs.Trust.{anchorFits, pointsFit, knows, linked}
 use Rattle.trust.specs.declared.Points.{Points}
 use Rattle.fields.specs.declared.asked.Ask.{Ask}
@@ -49,9 +49,9 @@ use Rattle.session.specs.declared.Context.{Context}
 use Rattle.session.specs.declared.Session.{Session}
 use Rattle.standing.specs.Standing.{openedByPin, openedByCan, hasRights, reachesDv, reachesTerminal, hasDv, hasTerminal, noChain, rank, told, unproven}
 use Rattle.session.specs.Session.{bareSession, atStage, announcedWith, chainedTo}
-use Rattle.grounds.specs.Fits.{grantedFits, rootFits, dvFits, terminalFits, reachFits, chainFits, runFits, stageFits, groundFits, contextFits}
+use Rattle.bounds.specs.Fits.{grantedFits, rootFits, dvFits, terminalFits, reachFits, chainFits, runFits, stageFits, groundFits, contextFits}
 use Rattle.token.specs.declared.state.Token.{Token}
-use Rattle.token.specs.declared.state.Made.the-variants.{Accepted, Unfit}
+use Rattle.status.specs.declared.Intake.the-variants.{Accepted, Unfit}
 use Rattle.token.specs.declared.state.Personalised.{Personalised}
 use Rattle.token.specs.State.{tries, uses, withSession, withPin, resetOf, startOf, noToken, madeOf, contextOf, chainOf}
 use Rattle.token.specs.Limits.{selectable}

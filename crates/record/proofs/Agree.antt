@@ -8,15 +8,15 @@ use mathlib.Core.List.{List, [], _∷_}
 use borrow.Author.Tests.{not-true}
 use lib.Dec.{eqb, leb}
 use Rattle.laws.proofs.Bools.{true-false, and-r, or-then}
-use Rattle.strings.specs.Names.{sameName}
+use Rattle.names.specs.Names.{sameName}
 use Rattle.rights.specs.Rights.{roleOf, isDv}
-use Rattle.values.specs.Points.{noPoint, withKey}
-use Rattle.strings.specs.Keys.{noKey}
-use Rattle.strings.proofs.Kept.{same-for}
-use Rattle.strings.specs.declared.name.Name.{Name}
-use Rattle.strings.specs.declared.key.Key.{Key}
-use Rattle.values.specs.declared.day.Day.{Day}
-use Rattle.values.specs.declared.point.Point.{Point}
+use Rattle.points.specs.Points.{noPoint, withKey}
+use Rattle.keys.specs.Keys.{noKey}
+use Rattle.names.proofs.Kept.{same-for}
+use Rattle.names.specs.declared.Name.{Name}
+use Rattle.keys.specs.declared.Key.{Key}
+use Rattle.days.specs.declared.Day.{Day}
+use Rattle.points.specs.declared.Point.{Point}
 use Rattle.rights.specs.declared.Rights.{Rights}
 use Rattle.rights.specs.declared.Role.{Role}
 use Rattle.rights.specs.declared.Role.the-variants.{Cvca, OfficialDv, OtherDv, Terminal}

@@ -8,14 +8,14 @@ use borrow.Author.Tests.{le-ltb, le-leb}
 use lib.Dec.{ltb}
 use lib.ListN.{length}
 use Rattle.laws.proofs.Bools.{true-false, and-l, and-r, or-then}
-use Rattle.strings.specs.Keys.{keyStands}
+use Rattle.keys.specs.Keys.{keyStands}
 use Rattle.rights.specs.Rights.{hasRight, readsGroup}
-use Rattle.values.specs.declared.point.Point.{Point}
+use Rattle.points.specs.declared.Point.{Point}
 use Rattle.rights.specs.declared.Rights.{Rights}
 use Rattle.rights.specs.declared.Granted.{Granted}
 use Rattle.rights.specs.declared.Granted.the-variants.{These, NoRights}
-use Rattle.values.specs.declared.word.Word.{Word}
-use Rattle.values.specs.declared.word.Word.the-variants.{Outside as W6F00}
+use Rattle.status.specs.declared.Word.{Word}
+use Rattle.status.specs.declared.Word.the-variants.{Outside as W6F00}
 use Rattle.command.specs.declared.kind.Kind.the-variants.{Read as KindRead}
 use Rattle.command.specs.declared.Shape.{Shape}
 use Rattle.command.specs.declared.Shape.the-variants.{Command}
@@ -28,12 +28,12 @@ use Rattle.event.specs.declared.happening.Event.{Event}
 use Rattle.event.specs.declared.happening.Event.the-variants.{ReadAllowed, Refused, Lost}
 use Rattle.event.specs.declared.happening.Refusal.the-variants.{Moment}
 use Rattle.event.specs.declared.happening.Loss.the-variants.{Broken}
-use Rattle.settle.specs.declared.course.Guard.the-variants.{Passes, Drops}
+use Rattle.course.specs.declared.Guard.the-variants.{Passes, Drops}
 use Rattle.event.specs.Event.{wordOf}
-use Rattle.settle.specs.declared.course.Note.the-variants.{Protected}
-use Rattle.settle.specs.declared.verdict.Answered.{Answered}
-use Rattle.settle.specs.declared.verdict.Happened.{Happened}
-use Rattle.settle.specs.Course.{settledBy}
+use Rattle.course.specs.declared.Note.the-variants.{Protected}
+use Rattle.settle.specs.declared.Answered.{Answered}
+use Rattle.settle.specs.declared.Happened.{Happened}
+use Rattle.course.specs.Course.{settledBy}
 use Rattle.settle.specs.Settle.{endsBy, courseOf, settleOf}
 use Rattle.order.specs.Order.{grounded}
 use Rattle.fields.specs.Given.{only}
@@ -50,9 +50,9 @@ use Rattle.standing.specs.declared.Stage.{Stage}
 use Rattle.standing.specs.declared.Stage.the-variants.{Idle, Run, Announced as AtAnnounced, Challenged as AtChallenged, Proven as AtProven, ChipKeyChosen as AtChosen, Authenticated as AtAuthenticated}
 use Rattle.session.specs.declared.Context.{Context}
 use Rattle.standing.specs.Standing.{isOpen, openedByPin, openedByCan, hasRights, hasTerminal, reachesTerminal, noRun, told, isAuthenticated}
-use Rattle.grounds.specs.Moment.{momentOf}
-use Rattle.grounds.specs.Authorization.{rootOf, confirmedOf, authorization}
-use Rattle.grounds.proofs.Authorizes.{shared-right, effective-right}
+use Rattle.moment.specs.Moment.{momentOf}
+use Rattle.authorization.specs.Authorization.{rootOf, confirmedOf, authorization}
+use Rattle.authorization.proofs.Authorizes.{shared-right, effective-right}
 use Rattle.token.specs.State.{contextOf}
 use Rattle.token.specs.declared.state.Token.{Token}
 use Rattle.token.specs.Limits.{inLimits}

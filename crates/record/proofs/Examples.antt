@@ -3,7 +3,7 @@ use Rattle.certificate.specs.Body.{unread, isKey, isSignature, extThen, lastThe
 use Rattle.command.specs.Form.{afterShort, afterLong, shortOf, longOf, extendedOf, bodyOf as bodyOf·Form·command, afterHeader, formOf}
 use Rattle.command.specs.Kind.{kindOf}
 use Rattle.command.specs.Shape.{headedOf, shapeOf}
-use Rattle.settle.specs.Course.{settledBy, awaitsBy}
+use Rattle.course.specs.Course.{settledBy, awaitsBy}
 use Rattle.event.specs.Event.{wordOf}
 use Rattle.settle.specs.Settle.{endsBy, passesBy, judgedOf, awaitedOf, courseOf}
 use Rattle.fields.specs.Announce.{keyThen as keyThen·Announce·fields, auxiliaryThen, terminalThen, protocolThen, announceOf}
@@ -12,7 +12,7 @@ use Rattle.fields.specs.Chip.{referenceIn, chipOf}
 use Rattle.fields.specs.Choice.{chosenBy, rightsThen as rightsThen·Choice·fields, passwordThen, protocolThen as protocolThen·Choice·fields, choiceOf}
 use Rattle.fields.specs.Given.{only, selecting, verifying, announcing}
 use Rattle.fields.specs.Held.{heldIn, generalOf}
-use Rattle.fields.specs.Names.{selectOf, verified, verifyOf}
+use Rattle.fields.specs.Issuers.{selectOf, verified, verifyOf}
 use Rattle.fields.specs.Plain.{proofOf, pinOf}
 use Rattle.fields.specs.Taking.{reading, lastly, fitted, lastOf, holds}
 use Rattle.objects.specs.Chain.{counted, taken}
@@ -22,12 +22,12 @@ use Rattle.record.specs.Rule.{readable}
 use Rattle.reply.specs.Bytes.{lengthBytes, object as object·Bytes·reply}
 use Rattle.reply.specs.Lay.{over}
 use Rattle.reply.specs.Reply.{dataOf as dataOf·Reply·reply, replyOf}
-use Rattle.grounds.specs.Authorization.{sharedBy, authorization}
-use Rattle.grounds.specs.Fits.{rootFits, dvFits, terminalFits, chainFits, groundFits, contextFits}
-use Rattle.grounds.specs.Moment.{momentOf}
+use Rattle.authorization.specs.Authorization.{sharedBy, authorization}
+use Rattle.bounds.specs.Fits.{rootFits, dvFits, terminalFits, chainFits, groundFits, contextFits}
+use Rattle.moment.specs.Moment.{momentOf}
 use Rattle.standing.specs.Standing.{noChain}
 use Rattle.token.specs.After.{choiceTaken, staged, stepPassed, opened, runClosed, trialLost, issuerSelected, linkTaken, dvTaken, terminalTaken, announced, unblocked, unblockedByPuk, activated, afterOf}
-use Rattle.checks.specs.Certify.{selectPlan, repeats, late, underCourse, underPlan, verifyPlan}
+use Rattle.certify.specs.Certify.{selectPlan, repeats, late, underCourse, underPlan, verifyPlan}
 use Rattle.checks.specs.Commands.{choosePlan, runPlan, chipPlan, generalPlan, announcePlan, readPlan, changePlan, unblockPlan, activePlan}
 use Rattle.token.specs.Limits.{inLimits}
 use Rattle.token.specs.Plan.{commandOf, timedOf, requestedOf, guarded, planOf}
@@ -36,12 +36,12 @@ use Rattle.answer.specs.Answer.{layoutOf, replyTo}
 use Rattle.token.specs.Step.{stepOf}
 use Rattle.trust.specs.Trust.{anchorFits, onePoint, twoPoints, pointsFit, knows, found, linked}
 use Rattle.strings.specs.Bytes.{copiedInto}
-use Rattle.values.specs.Days.{isDate, dayFits, isDay, dated, before, later}
-use Rattle.strings.specs.Keys.{isKey as isKey·Keys·values, keyOf, noKey, keyIs, keyFits, keyStands}
-use Rattle.strings.specs.Names.{isName, nameOf, noName, nameFits, sameName}
-use Rattle.values.specs.Points.{noPoint, pointFits, expired, withKey}
+use Rattle.days.specs.Days.{isDate, dayFits, isDay, dated, before, later}
+use Rattle.keys.specs.Keys.{isKey as isKey·Keys·values, keyOf, noKey, keyIs, keyFits, keyStands}
+use Rattle.names.specs.Names.{isName, nameOf, noName, nameFits, sameName}
+use Rattle.points.specs.Points.{noPoint, pointFits, expired, withKey}
 use Rattle.rights.specs.Rights.{rightsFit, roleOf, isRights, granted, andOf, common, groupMask, readsGroup}
-use Rattle.values.specs.Words.{number}
+use Rattle.status.specs.Words.{number}
 use mathlib.Core.Path.{refl}
 use Rattle.record.specs.Worked.{AllWorked}
 

@@ -3,10 +3,10 @@
 use Prim.Native.Nat.{ℕ, _≤_}
 use mathlib.Core.Path.{_≡_, refl, sym, ap, subst, _∙_}
 use mathlib.Core.List.{List, [], _∷_}
-use Rattle.values.specs.declared.day.Day.{Day}
+use Rattle.days.specs.declared.Day.{Day}
 use Rattle.trust.specs.declared.Points.{Points}
 use Rattle.token.specs.declared.state.Token.{Token}
-use Rattle.token.specs.declared.state.Made.the-variants.{Accepted}
+use Rattle.status.specs.declared.Intake.the-variants.{Accepted}
 use Rattle.token.specs.State.{resetOf, madeOf}
 use Rattle.token.specs.Step.{stepOf}
 use Rattle.record.specs.Entries.{Exchange, Entry, Reset, Sent, prescribed, after, reached}

@@ -3,10 +3,10 @@ use Prim.Native.Nat.{ℕ, _-_}
 use mathlib.Core.Bool.{Bool, true, false, cond, _&&_}
 use mathlib.Core.Path.{_≡_, refl, ap, _∙_}
 use lib.Dec.{ltb}
-use Rattle.strings.specs.declared.key.Key.{Key}
-use Rattle.values.specs.declared.point.Point.{Point}
-use Rattle.values.specs.declared.word.Word.{Word}
-use Rattle.values.specs.declared.word.Word.the-variants.{Done, Tries, NotPassed as BadVerdict}
+use Rattle.keys.specs.declared.Key.{Key}
+use Rattle.points.specs.declared.Point.{Point}
+use Rattle.status.specs.declared.Word.{Word}
+use Rattle.status.specs.declared.Word.the-variants.{Done, Tries, NotPassed as BadVerdict}
 use Rattle.run.specs.declared.Choice.{Choice}
 use Rattle.run.specs.Run.{passwordOf, isPin}
 use Rattle.event.specs.declared.happening.Refusal.{Refusal}

@@ -3,15 +3,15 @@ use Prim.Native.Nat.{ℕ, _+_, _≤_}
 use mathlib.Core.Bool.{Bool, true}
 use mathlib.Core.Path.{_≡_}
 use mathlib.Core.List.{List, [], _∷_}
-use Rattle.values.specs.declared.day.Day.{Day}
-use Rattle.values.specs.declared.point.Point.{Point}
-use Rattle.values.specs.declared.word.Word.{Word}
-use Rattle.values.specs.declared.word.Word.the-variants.{Done}
-use Rattle.settle.specs.declared.course.Note.the-variants.{Protected}
+use Rattle.days.specs.declared.Day.{Day}
+use Rattle.points.specs.declared.Point.{Point}
+use Rattle.status.specs.declared.Word.{Word}
+use Rattle.status.specs.declared.Word.the-variants.{Done}
+use Rattle.course.specs.declared.Note.the-variants.{Protected}
 use Rattle.reply.specs.Reply.{room}
 use Rattle.trust.specs.declared.Points.{Points}
 use Rattle.token.specs.declared.state.Token.{Token}
-use Rattle.token.specs.declared.state.Made.the-variants.{Accepted}
+use Rattle.status.specs.declared.Intake.the-variants.{Accepted}
 use Rattle.token.specs.State.{madeOf}
 use Rattle.token.specs.Limits.{inLimits}
 use Rattle.record.specs.Entries.{Exchange, Entry, prescribed, reached, shown}

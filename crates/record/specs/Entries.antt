@@ -4,10 +4,10 @@ use Prim.Native.Nat.{ℕ}
 use mathlib.Core.Bool.{cond}
 use mathlib.Core.List.{List, [], _∷_}
 use lib.Dec.{ltb}
-use Rattle.values.specs.declared.word.Word.{Word}
-use Rattle.values.specs.declared.word.Word.the-variants.{Outside}
-use Rattle.settle.specs.declared.course.Note.{Note}
-use Rattle.settle.specs.declared.verdict.Answered.{Answered}
+use Rattle.status.specs.declared.Word.{Word}
+use Rattle.status.specs.declared.Word.the-variants.{Outside}
+use Rattle.course.specs.declared.Note.{Note}
+use Rattle.settle.specs.declared.Answered.{Answered}
 use Rattle.event.specs.Event.{wordOf}
 use Rattle.reply.specs.Reply.{room}
 use Rattle.token.specs.declared.state.Token.{Token}

@@ -5,17 +5,17 @@ use mathlib.Core.Bool.{Bool, true, false, cond, not, _&&_, _||_}
 use mathlib.Core.Option.{Option, none, some}
 use mathlib.Core.List.{List, [], _∷_}
 use lib.Dec.{eqb, leb}
-use Rattle.strings.specs.Names.{sameName}
+use Rattle.names.specs.Names.{sameName}
 use Rattle.rights.specs.Rights.{roleOf, hasRight}
-use Rattle.strings.specs.declared.name.Name.{Name}
-use Rattle.values.specs.declared.point.Point.{Point}
+use Rattle.names.specs.declared.Name.{Name}
+use Rattle.points.specs.declared.Point.{Point}
 use Rattle.rights.specs.declared.Rights.{Rights}
 use Rattle.rights.specs.declared.Granted.{Granted}
 use Rattle.rights.specs.declared.Granted.the-variants.{These, NoRights}
 use Rattle.rights.specs.declared.Role.{Role}
 use Rattle.rights.specs.declared.Role.the-variants.{Cvca, OfficialDv, OtherDv, Terminal}
-use Rattle.values.specs.declared.word.Word.{Word}
-use Rattle.values.specs.declared.word.Word.the-variants.{Done, Tries, NotPassed, Length, Lacking, Blocked, Expired, Moment, Unprotected, Broken, Data, Parameters, NotFound, Instruction, Class, Outside}
+use Rattle.status.specs.declared.Word.{Word}
+use Rattle.status.specs.declared.Word.the-variants.{Done, Tries, NotPassed, Length, Lacking, Blocked, Expired, Moment, Unprotected, Broken, Data, Parameters, NotFound, Instruction, Class, Outside}
 use Rattle.run.specs.declared.Password.{Password}
 use Rattle.run.specs.declared.Choice.{Choice}
 use Rattle.run.specs.Run.{passwordOf, rightsNamed, isCan}

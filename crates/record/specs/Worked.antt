@@ -3,17 +3,17 @@
 use mathlib.Core.Bool.{Bool, true, false}
 use mathlib.Core.Path.{_≡_}
 use mathlib.Core.List.{List, [], _∷_, _++_}
-use Rattle.strings.specs.Names.{nameOf}
-use Rattle.values.specs.declared.day.Day.{Day}
-use Rattle.values.specs.declared.point.Point.{Point}
-use Rattle.values.specs.declared.word.Word.{Word}
-use Rattle.values.specs.declared.word.Word.the-variants.{Done, Lacking, Moment, Broken}
+use Rattle.names.specs.Names.{nameOf}
+use Rattle.days.specs.declared.Day.{Day}
+use Rattle.points.specs.declared.Point.{Point}
+use Rattle.status.specs.declared.Word.{Word}
+use Rattle.status.specs.declared.Word.the-variants.{Done, Lacking, Moment, Broken}
 use Rattle.run.specs.declared.Step.the-variants.{Nonce, Map, Agree, Confirm}
-use Rattle.settle.specs.declared.course.Job.{Job}
-use Rattle.settle.specs.declared.course.Job.the-variants.{Nothing, Step as StepJob, Certificate, Challenge, Proof, ChipKey}
-use Rattle.settle.specs.declared.course.Note.the-variants.{Plain, Protected}
-use Rattle.settle.specs.declared.verdict.Verdict.the-variants.{Passed, Failed, Missing}
-use Rattle.settle.specs.declared.verdict.Answered.{Answered}
+use Rattle.course.specs.declared.Job.{Job}
+use Rattle.course.specs.declared.Job.the-variants.{Nothing, Step as StepJob, Certificate, Challenge, Proof, ChipKey}
+use Rattle.course.specs.declared.Note.the-variants.{Plain, Protected}
+use Rattle.settle.specs.declared.Verdict.the-variants.{Passed, Failed, Missing}
+use Rattle.settle.specs.declared.Answered.{Answered}
 use Rattle.reply.specs.Reply.{room}
 use Rattle.trust.specs.Trust.{onePoint}
 use Rattle.record.specs.Entries.{Exchange, Entry, Reset, Sent, prescribed, reached}

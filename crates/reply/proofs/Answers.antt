@@ -5,7 +5,7 @@ use mathlib.Core.Path.{_≡_, refl, _∙_}
 use mathlib.Core.List.{List, [], _++_}
 use borrow.Author.Tests.{lt-ltb, le-ltb}
 use lib.ListN.{length, drop}
-use Rattle.strings.specs.declared.name.Name.{Name}
+use Rattle.names.specs.declared.Name.{Name}
 use Rattle.reply.specs.declared.Layout.{Layout}
 use Rattle.reply.specs.declared.Layout.the-variants.{Bare}
 use Rattle.reply.specs.Lay.{over, Written}

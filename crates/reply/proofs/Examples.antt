@@ -5,8 +5,8 @@ use mathlib.Core.Bool.{true, false}
 use mathlib.Core.List.{List, [], _∷_}
 use lib.ListN.{take, replicate}
 use Rattle.strings.specs.Bytes.{copiedInto}
-use Rattle.strings.specs.Names.{nameOf, noName}
-use Rattle.strings.specs.declared.name.Name.{Name}
+use Rattle.names.specs.Names.{nameOf, noName}
+use Rattle.names.specs.declared.Name.{Name}
 use Rattle.reply.specs.declared.Layout.the-variants.{Silent, Nest, Confirmed, Pair}
 use Rattle.reply.specs.Bytes.{lengthBytes, object}
 use Rattle.reply.specs.Reply.{room, dataOf, replyOf}

@@ -2,4 +2,3 @@ pub mod Laying
 pub mod Pieces
 pub mod Answers
 pub mod Examples
-pub mod Pinned

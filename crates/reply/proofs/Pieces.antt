@@ -9,8 +9,8 @@ use lib.ListN.{length, take, drop, length-append, length-drop}
 use lib.Seq.{length-take-le}
 use borrow.Author.Tests.{lt-ltb, le-ltb}
 use Rattle.laws.proofs.Lists.{clip-long, take-clip, take-min, from}
-use Rattle.strings.specs.Names.{places, nameBytes}
-use Rattle.strings.specs.declared.name.Name.{Name}
+use Rattle.names.specs.Names.{places, nameBytes}
+use Rattle.names.specs.declared.Name.{Name}
 use Rattle.reply.specs.Lay.{over, Put, Written}
 use Rattle.reply.specs.Bytes.{wordBytes, lengthBytes, header, object, sizeOf}
 use Rattle.reply.specs.Reply.{room, string, nonce, pointNames, nonceToken}

@@ -5,8 +5,8 @@ use mathlib.Core.List.{List, [], _++_}
 use lib.Dec.{ltb}
 use lib.ListN.{length, take, drop}
 use Rattle.strings.specs.Bytes.{longest}
-use Rattle.strings.specs.Names.{nameBytes}
-use Rattle.strings.specs.declared.name.Name.{Name}
+use Rattle.names.specs.Names.{nameBytes}
+use Rattle.names.specs.declared.Name.{Name}
 use Rattle.reply.specs.Bytes.{wordBytes, object}
 use Rattle.reply.specs.declared.Layout.{Layout}
 use Rattle.reply.specs.declared.Layout.the-variants.{Silent, Bare, Flat, Nest, Confirmed, Pair}

@@ -2,8 +2,8 @@
 ghost use lib.ListN.{length};
 ghost use Rattle.reply.specs.Lay.{Written};
 ghost use Rattle.reply.specs.Reply.{replyOf};
-use strings::bytes::STRING;
-use strings::name::Name;
+use names::Name;
+use strings::STRING;
 
 mod wire;
 

@@ -3,12 +3,12 @@ ghost use mathlib.Core.Path.{_≡_};
 ghost use mathlib.Core.List.{[], _∷_, _++_};
 ghost use Prim.Native.Nat.{_+_, _≤_, _<_};
 ghost use lib.ListN.{length};
-ghost use Rattle.strings.specs.Names.{nameBytes};
+ghost use Rattle.names.specs.Names.{nameBytes};
 ghost use Rattle.reply.specs.Lay.{Put, Written};
 ghost use Rattle.reply.specs.Bytes.{wordBytes, header, object, sizeOf};
 ghost use Rattle.reply.specs.Reply.{room, string, pointNames, nonceToken};
-use strings::bytes::clip;
-use strings::name::Name;
+use names::Name;
+use strings::clip;
 
 // The bytes of the chip key's nonce.
 const NONCE: usize = 8;

@@ -1,4 +1,3 @@
 pub mod Contents
 pub mod Bits
 pub mod Kept
-pub mod Pinned

@@ -4,7 +4,7 @@ ghost use Prim.Native.Nat.{_+_, _*_, _≤_};
 ghost use lib.ListN.{length};
 ghost use Rattle.strings.specs.Bytes.{number};
 ghost use Rattle.rights.specs.Rights.{rightsFit, roleOf, granted, common, hasRight, groupMask, readsGroup, isCvca, isOfficial, isTerminal, isDv};
-use strings::bytes::same;
+use strings::same;
 
 pub struct Rights(pub u64);
 

@@ -1,8 +1,8 @@
 -- Sessions, over plain values. Assumes nothing.
 use borrow.Author.Needs.{needs}
-use mathlib.Core.Path.{_≡_}
-use Rattle.strings.specs.Keys.{noKey}
-use Rattle.strings.specs.declared.key.Key.{Key}
+use mathlib.Core.Path.{_≡_, ap, _∙_}
+use Rattle.keys.specs.Keys.{noKey}
+use Rattle.keys.specs.declared.Key.{Key}
 use Rattle.rights.specs.declared.Granted.{Granted}
 use Rattle.standing.specs.declared.Opened.{Opened}
 use Rattle.standing.specs.declared.Chain.{Chain}
@@ -20,5 +20,8 @@ bare-is o g s c k e f = rw (e, f)
 pub chained-is : (z : Session) (c : Chain) (k : Key) → k ≡ noKey
     → _≡_ {A = Session} (record { context = record { opened = z .context .opened; confirmed = z .context .confirmed; chain = c; stage = Idle; key = k }; selected = NoIssuer }) (chainedTo z c)
 chained-is z c k e = rw e
+
+pub unchained-is : (z r : Session) (c : Chain) → c ≡ noChain → r ≡ chainedTo z c → r ≡ chainedTo z noChain
+unchained-is z r c e f = f ∙ ap (chainedTo z) e
 
 pub ruleset parts = (bare-is, chained-is, needs)

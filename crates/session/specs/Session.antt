@@ -1,7 +1,7 @@
 -- "The session holds which password opened it, the confirmed rights, the chain so far, the selected issuer and one stage."
 -- Record literals of a session stand here alone. Assumes nothing: these are definitions.
-use Rattle.strings.specs.Keys.{noKey}
-use Rattle.strings.specs.declared.key.Key.{Key}
+use Rattle.keys.specs.Keys.{noKey}
+use Rattle.keys.specs.declared.Key.{Key}
 use Rattle.rights.specs.declared.Granted.{Granted}
 use Rattle.rights.specs.declared.Granted.the-variants.{NoRights}
 use Rattle.event.specs.declared.happening.Issuer.{Issuer}

@@ -1,7 +1,10 @@
 // A session: who opened it, what was confirmed, its chain, how far it has come.
 ghost use mathlib.Core.Path.{_≡_};
 ghost use Rattle.session.specs.Session.{noSession, bareSession, rechosen, atStage, announcedWith, chainedTo, selecting};
+ghost use Rattle.standing.specs.Standing.{noChain};
+ghost use Rattle.standing.specs.declared.Stage.the-variants.{Announced};
 use event::happening::Issuer;
+use keys::Key;
 use rights::Granted;
 use run::Choice;
 use run::Step;
@@ -9,7 +12,6 @@ use standing::Chain;
 use standing::Opened;
 use standing::Selected;
 use standing::Stage;
-use strings::key::Key;
 
 // What a later store of contexts keeps: all of a session but the selection.
 pub struct Context {
@@ -79,6 +81,13 @@ impl Session {
         self
     }
 
+    // A proof was lost: its challenge falls, the announcement stays.
+    pub fn proof_lost(self) -> Self
+        ensures { λ r. ⌜ r ≡ atStage self Announced ⌝ }
+    {
+        self.at(Stage::Announced)
+    }
+
     // Announced, with this key.
     pub fn announced(mut self, key: Key) -> Self
         ensures { λ r. ⌜ r ≡ announcedWith self key ⌝ }
@@ -116,6 +125,14 @@ impl Session {
             },
             selected: Selected::NoIssuer,
         }
+    }
+
+    // A link was taken: no chain; selection and announcement fall.
+    pub fn unchained(self) -> Self
+        ensures { λ r. ⌜ r ≡ chainedTo self noChain ⌝ }
+    {
+        let chain = Chain::none();
+        self.chained(chain)
     }
 
     pub fn selecting(self, issuer: Issuer) -> Self

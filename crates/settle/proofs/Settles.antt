@@ -14,19 +14,20 @@ use lib.ListN.{length}
 use Rattle.laws.proofs.Bools.{true-false, and-l, and-r}
 use Rattle.strings.specs.Bytes.{among, longest}
 use Rattle.event.specs.declared.happening.Event.{Event}
-use Rattle.settle.specs.declared.course.Job.{Job}
-use Rattle.settle.specs.declared.course.Job.the-variants.{Nothing, Step as StepJob, Certificate, Challenge, Proof, ChipKey, PinChange}
-use Rattle.settle.specs.declared.course.Course.{Course}
-use Rattle.settle.specs.declared.course.Course.the-variants.{Settled, Awaits}
-use Rattle.settle.specs.declared.course.Plan.{Plan}
-use Rattle.settle.specs.declared.verdict.Verdict.{Verdict}
-use Rattle.settle.specs.declared.verdict.Verdict.the-variants.{Passed, Failed, Missing}
-use Rattle.settle.specs.declared.verdict.Answered.{Answered}
-use Rattle.settle.specs.declared.verdict.Happened.{Happened}
-use Rattle.settle.proofs.verdict.Verdict.{the-type}
+use Rattle.course.specs.declared.Job.{Job}
+use Rattle.course.specs.declared.Job.the-variants.{Nothing, Step as StepJob, Certificate, Challenge, Proof, ChipKey, PinChange}
+use Rattle.course.specs.declared.Course.{Course}
+use Rattle.course.specs.declared.Course.the-variants.{Settled, Awaits}
+use Rattle.course.specs.declared.Plan.{Plan}
+use Rattle.settle.specs.declared.Verdict.{Verdict}
+use Rattle.settle.specs.declared.Verdict.the-variants.{Passed, Failed, Missing}
+use Rattle.settle.specs.declared.Answered.{Answered}
+use Rattle.settle.specs.declared.Happened.{Happened}
+use Rattle.settle.proofs.Verdict.{the-type}
 use Rattle.run.specs.Run.{isLast}
-use Rattle.settle.specs.Course.{courseJob}
-use Rattle.settle.specs.Settle.{jobNumber, jobFits, matches, endsBy, passesBy, judgedOf, awaitedOf, courseOf, settleOf}
+use Rattle.course.specs.Course.{courseJob}
+use Rattle.settle.specs.Settle.{jobFits, matches, endsBy, passesBy, judgedOf, awaitedOf, courseOf, settleOf}
+use Rattle.course.specs.Course.{jobNumber}
 
 module _ (p : Plan) (j : Job) (x y : Event) (a : ℕ) (s : List ℕ) (r : Happened) where
   -- every verdict but a passed one

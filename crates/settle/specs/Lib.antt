@@ -1,2 +1,1 @@
-pub mod Course
 pub mod Settle

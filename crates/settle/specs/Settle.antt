@@ -5,31 +5,22 @@ use mathlib.Core.List.{List}
 use lib.Dec.{eqb}
 use lib.ListN.{length}
 use Rattle.strings.specs.Bytes.{among, longest}
-use Rattle.strings.specs.Keys.{keyIs, places}
-use Rattle.values.specs.Points.{withKey}
-use Rattle.strings.specs.declared.key.Key.{Key}
-use Rattle.values.specs.declared.point.Point.{Point}
+use Rattle.keys.specs.Keys.{keyIs, places}
+use Rattle.points.specs.Points.{withKey}
+use Rattle.keys.specs.declared.Key.{Key}
+use Rattle.points.specs.declared.Point.{Point}
 use Rattle.event.specs.declared.happening.Event.{Event}
-use Rattle.settle.specs.declared.course.Job.{Job}
-use Rattle.settle.specs.declared.course.Job.the-variants.{Nothing, Step as StepJob, Certificate, Challenge, Proof, ChipKey, PinChange}
-use Rattle.settle.specs.declared.course.Course.{Course}
-use Rattle.settle.specs.declared.course.Course.the-variants.{Settled, Awaits}
-use Rattle.settle.specs.declared.course.Plan.{Plan}
-use Rattle.settle.specs.declared.verdict.Verdict.{Verdict}
-use Rattle.settle.specs.declared.verdict.Verdict.the-variants.{Passed, Failed, Missing}
-use Rattle.settle.specs.declared.verdict.Answered.{Answered}
-use Rattle.settle.specs.declared.verdict.Happened.{Happened}
-use Rattle.run.specs.Run.{stepNumber, isLast}
-
--- the nine jobs; none is none of them
-abbrev pub jobNumber : Job → ℕ
-jobNumber Nothing = 0
-jobNumber (StepJob p) = stepNumber p
-jobNumber Certificate = 5
-jobNumber Challenge = 6
-jobNumber Proof = 7
-jobNumber ChipKey = 8
-jobNumber PinChange = 9
+use Rattle.course.specs.declared.Job.{Job}
+use Rattle.course.specs.declared.Job.the-variants.{Nothing, Step as StepJob, Certificate, Challenge, Proof, ChipKey, PinChange}
+use Rattle.course.specs.Course.{jobNumber}
+use Rattle.course.specs.declared.Course.{Course}
+use Rattle.course.specs.declared.Course.the-variants.{Settled, Awaits}
+use Rattle.course.specs.declared.Plan.{Plan}
+use Rattle.settle.specs.declared.Verdict.{Verdict}
+use Rattle.settle.specs.declared.Verdict.the-variants.{Passed, Failed, Missing}
+use Rattle.settle.specs.declared.Answered.{Answered}
+use Rattle.settle.specs.declared.Happened.{Happened}
+use Rattle.run.specs.Run.{isLast}
 
 -- "two byte strings (empty where none is named)": the lengths that a job names
 abbrev pub jobFits : Job → ℕ → ℕ → Bool

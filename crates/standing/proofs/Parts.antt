@@ -1,7 +1,7 @@
 -- An empty chain, over plain values. Assumes nothing.
 use mathlib.Core.Path.{_≡_}
-use Rattle.values.specs.Points.{noPoint}
-use Rattle.values.specs.declared.point.Point.{Point}
+use Rattle.points.specs.Points.{noPoint}
+use Rattle.points.specs.declared.Point.{Point}
 use Rattle.standing.specs.declared.Reach.the-variants.{Empty}
 use Rattle.standing.specs.declared.Chain.{Chain}
 use Rattle.standing.specs.Standing.{noChain}

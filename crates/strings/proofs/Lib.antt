@@ -1,4 +1,1 @@
 pub mod Strings
-pub mod Contents
-pub mod Kept
-pub mod Pinned

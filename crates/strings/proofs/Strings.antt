@@ -1,16 +1,17 @@
 -- Laws on byte strings. Assumes nothing.
-use Prim.Native.Nat.{ℕ, suc, _+_, _<_}
+use Prim.Native.Nat.{ℕ, suc, _+_, _<_, _≤_, min}
+use native.Mathlib.Omega.{arith}
 use native.Mathlib.Numerals.{add-one}
 use mathlib.Core.Path.{_≡_, refl, sym, ap, _∙_}
 use mathlib.Core.Bool.{Bool, true, false, not}
 use mathlib.Core.List.{List, [], _∷_}
 use borrow.Author.Tests.{eq-eqb, ne-eqb, eqb-true, not-true, not-false}
 use lib.Dec.{eqb}
-use lib.ListN.{length, drop, getD}
-use lib.Seq.{drop-cons}
+use lib.ListN.{length, take, drop, getD}
+use lib.Seq.{drop-cons, take-append-le, take-all}
 use Rattle.laws.proofs.Bools.{true-false, and-l, and-r, and-no}
-use Rattle.strings.specs.Bytes.{eqbs, belongsTo, allOf}
-use Rattle.strings.specs.declared.bytes.Class.{Class}
+use Rattle.strings.specs.Bytes.{eqbs, belongsTo, allOf, copiedInto}
+use Rattle.strings.specs.declared.Class.{Class}
 
 -- ---- two byte strings are the same
 
@@ -49,3 +50,12 @@ module _ (k : Class) (s : List ℕ) (i : ℕ) (t : Bool) (h : i < length s) (is 
 
   pub all-off : not t ≡ true → allOf k (drop i s) ≡ false
   all-off e = rw (drop-cons s i 0 h, sym is ∙ not-true t e)
+
+-- ---- a string in an array
+
+-- a string copied to the start of an array with room for it
+pub kept : (o c : List ℕ) → length c ≤ length o → take (min (length c) (length o)) (copiedInto o c) ≡ c
+unfolding copiedInto
+kept o c h =
+    let e : min (length c) (length o) ≡ length c = omega arith in
+    rw (e, take-all (length o) c h, take-append-le (length c) c (drop (length c) o) (omega arith), take-all (length c) c (omega arith))

@@ -4,8 +4,8 @@ use mathlib.Core.List.{List, [], _∷_, _++_}
 use mathlib.Core.Bool.{Bool, true, false, _&&_, _||_}
 use lib.ListN.{length, take, drop, replicate}
 use lib.Dec.{leb, eqb}
-use Rattle.strings.specs.declared.bytes.Class.{Class}
-use Rattle.strings.specs.declared.bytes.Class.the-variants.{Letter, Latin, Serial, Digit, Numeral}
+use Rattle.strings.specs.declared.Class.{Class}
+use Rattle.strings.specs.declared.Class.the-variants.{Letter, Latin, Serial, Digit, Numeral}
 
 -- the same bytes, and as many
 abbrev pub eqbs : List ℕ → List ℕ → Bool

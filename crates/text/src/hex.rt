@@ -11,7 +11,7 @@ use super::number::glyph;
 use super::number::is_digit;
 use super::number::worth;
 use super::put;
-use strings::bytes::same;
+use strings::same;
 
 // The bytes that a word writes, by their number.
 pub enum Taken {

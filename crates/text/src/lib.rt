@@ -6,7 +6,7 @@ ghost use lib.ListN.{length, take};
 ghost use Rattle.reply.specs.Lay.{Put};
 ghost use Rattle.text.specs.Room.{fitting};
 ghost use Rattle.text.specs.Find.{placeOf};
-use strings::bytes::clip;
+use strings::clip;
 
 pub mod hex;
 pub mod number;

@@ -1,13 +1,12 @@
 -- Each event's change, over plain values. Assumes nothing.
 use borrow.Author.Needs.{needs}
 use Prim.Native.Nat.{ℕ, _-_}
-use mathlib.Core.Bool.{Bool, true, false}
 use mathlib.Core.Path.{_≡_, sym, ap, _∙_}
-use Rattle.values.specs.Days.{later}
-use Rattle.values.specs.Points.{noPoint, todayAfter}
-use Rattle.values.specs.declared.day.Day.{Day}
-use Rattle.strings.specs.declared.key.Key.{Key}
-use Rattle.values.specs.declared.point.Point.{Point}
+use Rattle.days.specs.Days.{later}
+use Rattle.points.specs.Points.{noPoint, todayAfter}
+use Rattle.days.specs.declared.Day.{Day}
+use Rattle.keys.specs.declared.Key.{Key}
+use Rattle.points.specs.declared.Point.{Point}
 use Rattle.rights.specs.declared.Rights.{Rights}
 use Rattle.rights.specs.declared.Granted.{Granted}
 use Rattle.rights.specs.declared.Granted.the-variants.{NoRights}
@@ -22,7 +21,6 @@ use Rattle.trust.specs.declared.Points.{Points}
 use Rattle.standing.specs.declared.Opened.the-variants.{By}
 use Rattle.standing.specs.declared.Reach.{Reach}
 use Rattle.standing.specs.declared.Reach.the-variants.{ToDv}
-use Rattle.standing.specs.declared.Chain.{Chain}
 use Rattle.standing.specs.declared.Stage.{Stage}
 use Rattle.standing.specs.declared.Stage.the-variants.{Idle, Run}
 use Rattle.session.specs.declared.Session.{Session}
@@ -65,10 +63,10 @@ module _ (t : Token) where
   unfolding issuerSelected
   selected-is i z e = rw e
 
-  pub link-is : (p : Point) (h : Points) (c : Chain) (z : Session) (d : Day) → h ≡ linked (t .points) p → c ≡ noChain → z ≡ chainedTo (t .session) c → d ≡ later (t .today) (p .first)
+  pub link-is : (p : Point) (h : Points) (z : Session) (d : Day) → h ≡ linked (t .points) p → z ≡ chainedTo (t .session) noChain → d ≡ later (t .today) (p .first)
       → withToday (withSession (withPoints t h) z) d ≡ linkTaken t p
   unfolding linkTaken
-  link-is p h c z d e f g i = rw (g, e, f, i)
+  link-is p h z d e f g = rw (f, e, g)
 
   pub dv-is : (p : Point) (root : Rights) (n : Point) (z : Session) (d : Day) → n ≡ noPoint → z ≡ chainedTo (t .session) (record { reach = ToDv root; dv = p; terminal = n })
       → d ≡ later (t .today) (p .first) → withToday (withSession t z) d ≡ dvTaken t p root

@@ -5,10 +5,10 @@ use mathlib.Core.List.{List}
 use borrow.Author.Tests.{lt-ltb, le-ltb}
 use lib.ListN.{length, take}
 use lib.Seq.{length-take-le}
-use Rattle.settle.specs.declared.course.Note.{Note}
-use Rattle.settle.specs.declared.course.Plan.{Plan}
-use Rattle.settle.specs.declared.verdict.Answered.{Answered}
-use Rattle.settle.specs.declared.verdict.Happened.{Happened}
+use Rattle.course.specs.declared.Note.{Note}
+use Rattle.course.specs.declared.Plan.{Plan}
+use Rattle.settle.specs.declared.Answered.{Answered}
+use Rattle.settle.specs.declared.Happened.{Happened}
 use Rattle.settle.specs.Settle.{settleOf}
 use Rattle.settle.proofs.Settles.{answer-in}
 use Rattle.reply.specs.Lay.{Written}

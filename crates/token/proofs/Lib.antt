@@ -2,4 +2,3 @@ pub mod States
 pub mod Changes
 pub mod Orders
 pub mod Ends
-pub mod Pinned

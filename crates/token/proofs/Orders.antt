@@ -8,18 +8,18 @@ use Rattle.command.specs.declared.kind.Kind.{Kind}
 use Rattle.event.specs.declared.happening.Refusal.the-variants.{Moment, Outside}
 use Rattle.event.specs.declared.happening.Loss.{Loss}
 use Rattle.event.specs.declared.happening.Event.the-variants.{Refused, Lost}
-use Rattle.settle.specs.declared.course.Note.{Note}
-use Rattle.settle.specs.declared.course.Guard.{Guard}
-use Rattle.settle.specs.declared.course.Guard.the-variants.{Passes, Drops}
-use Rattle.settle.specs.declared.course.Job.{Job}
-use Rattle.settle.specs.declared.course.Plan.{Plan}
-use Rattle.settle.specs.Course.{settledBy, guardOf, courseJob}
+use Rattle.course.specs.declared.Note.{Note}
+use Rattle.course.specs.declared.Guard.{Guard}
+use Rattle.course.specs.declared.Guard.the-variants.{Passes, Drops}
+use Rattle.course.specs.declared.Job.{Job}
+use Rattle.course.specs.declared.Plan.{Plan}
+use Rattle.course.specs.Course.{settledBy, guardOf, courseJob}
 use Rattle.fields.specs.declared.asked.Ask.{Ask}
 use Rattle.fields.specs.declared.asked.Request.{Request}
 use Rattle.fields.specs.declared.asked.Asked.{Asked}
 use Rattle.fields.specs.Asked.{askedOf}
 use Rattle.standing.specs.Standing.{isOpen}
-use Rattle.grounds.specs.Moment.{momentOf}
+use Rattle.moment.specs.Moment.{momentOf}
 use Rattle.token.specs.declared.state.Token.{Token}
 use Rattle.token.specs.Limits.{inLimits}
 use Rattle.token.specs.Plan.{commandOf, timedOf, requestedOf, guarded, planOf}

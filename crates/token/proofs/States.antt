@@ -3,18 +3,18 @@ use borrow.Author.Needs.{needs}
 use mathlib.Core.Bool.{Bool, true, false, not, _&&_}
 use mathlib.Core.Path.{_≡_, ap, _∙_}
 use lib.Dec.{leb}
-use Rattle.values.specs.Days.{dayFits}
-use Rattle.values.specs.Points.{noPoint}
-use Rattle.values.specs.declared.day.Day.{Day}
-use Rattle.values.specs.declared.point.Point.{Point}
+use Rattle.days.specs.Days.{dayFits}
+use Rattle.points.specs.Points.{noPoint}
+use Rattle.days.specs.declared.Day.{Day}
+use Rattle.points.specs.declared.Point.{Point}
 use Rattle.trust.specs.Trust.{onePoint, pointsFit, knows}
 use Rattle.trust.specs.declared.Points.{Points}
 use Rattle.session.specs.declared.Session.{Session}
 use Rattle.standing.specs.Standing.{hasDv}
 use Rattle.session.specs.Session.{noSession}
-use Rattle.grounds.specs.Fits.{contextFits}
+use Rattle.bounds.specs.Fits.{contextFits}
 use Rattle.token.specs.declared.state.Token.{Token}
-use Rattle.token.specs.declared.state.Made.the-variants.{Accepted, Unfit}
+use Rattle.status.specs.declared.Intake.the-variants.{Accepted, Unfit}
 use Rattle.token.specs.declared.state.Personalised.{Personalised}
 use Rattle.token.specs.State.{tries, uses, withSession, resetOf, startOf, noToken, madeOf}
 use Rattle.token.specs.Limits.{selectable, inLimits}

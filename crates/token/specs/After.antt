@@ -1,10 +1,10 @@
 -- The token after each event: every state change of the product. Assumes nothing: these are definitions.
 use Prim.Native.Nat.{ℕ, _-_}
 use mathlib.Core.Bool.{Bool, true, false, cond}
-use Rattle.values.specs.Days.{later}
-use Rattle.values.specs.Points.{noPoint, todayAfter}
-use Rattle.strings.specs.declared.key.Key.{Key}
-use Rattle.values.specs.declared.point.Point.{Point}
+use Rattle.days.specs.Days.{later}
+use Rattle.points.specs.Points.{noPoint, todayAfter}
+use Rattle.keys.specs.declared.Key.{Key}
+use Rattle.points.specs.declared.Point.{Point}
 use Rattle.rights.specs.declared.Rights.{Rights}
 use Rattle.rights.specs.declared.Granted.the-variants.{NoRights}
 use Rattle.run.specs.declared.Choice.{Choice}

@@ -1,13 +1,13 @@
 -- "A state is outside its limits exactly when ..". Assumes nothing: these are definitions.
 use mathlib.Core.Bool.{Bool, true, not, _&&_}
 use lib.Dec.{leb}
-use Rattle.values.specs.Days.{dayFits}
+use Rattle.days.specs.Days.{dayFits}
 use Rattle.trust.specs.Trust.{pointsFit, knows}
 use Rattle.event.specs.declared.happening.Issuer.the-variants.{Newest, Previous, Dv}
 use Rattle.standing.specs.declared.Selected.{Selected}
 use Rattle.standing.specs.declared.Selected.the-variants.{NoIssuer, Of}
 use Rattle.standing.specs.Standing.{hasDv}
-use Rattle.grounds.specs.Fits.{contextFits}
+use Rattle.bounds.specs.Fits.{contextFits}
 use Rattle.token.specs.declared.state.Token.{Token}
 use Rattle.token.specs.State.{tries, uses}
 

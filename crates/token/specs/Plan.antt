@@ -7,12 +7,12 @@ use lib.Dec.{eqb}
 use Rattle.command.specs.declared.kind.Kind.{Kind}
 use Rattle.event.specs.declared.happening.Refusal.the-variants.{Moment, Data, Outside}
 use Rattle.event.specs.declared.happening.Event.the-variants.{Refused, Lost, Challenged, Proven, ProofLost, ChipKeyChosen, Activated, Deactivated, NotPassed}
-use Rattle.settle.specs.declared.course.Note.{Note}
-use Rattle.settle.specs.declared.course.Guard.{Guard}
-use Rattle.settle.specs.declared.course.Guard.the-variants.{Passes, Drops}
-use Rattle.settle.specs.declared.course.Job.the-variants.{Challenge as ChallengeJob, Proof}
-use Rattle.settle.specs.declared.course.Plan.{Plan}
-use Rattle.settle.specs.Course.{settledBy, awaitsBy, guardOf}
+use Rattle.course.specs.declared.Note.{Note}
+use Rattle.course.specs.declared.Guard.{Guard}
+use Rattle.course.specs.declared.Guard.the-variants.{Passes, Drops}
+use Rattle.course.specs.declared.Job.the-variants.{Challenge as ChallengeJob, Proof}
+use Rattle.course.specs.declared.Plan.{Plan}
+use Rattle.course.specs.Course.{settledBy, awaitsBy, guardOf}
 use Rattle.fields.specs.declared.asked.Ask.{Ask}
 use Rattle.fields.specs.declared.asked.Ask.the-variants.{Bad, Choose, General, Select, Verify, Announce, Challenge, Prove, ChooseChipKey, Read, ChangePin, Unblock, Activate, Deactivate}
 use Rattle.fields.specs.declared.asked.Request.{Request}
@@ -20,9 +20,9 @@ use Rattle.fields.specs.declared.asked.Request.the-variants.{Refused as Faulty,
 use Rattle.fields.specs.declared.asked.Asked.{Asked}
 use Rattle.fields.specs.Asked.{askedOf}
 use Rattle.standing.specs.Standing.{isOpen}
-use Rattle.grounds.specs.Moment.{momentOf}
+use Rattle.moment.specs.Moment.{momentOf}
 use Rattle.checks.specs.Commands.{choosePlan, generalPlan, announcePlan, readPlan, changePlan, unblockPlan, activePlan}
-use Rattle.checks.specs.Certify.{selectPlan, verifyPlan}
+use Rattle.certify.specs.Certify.{selectPlan, verifyPlan}
 use Rattle.token.specs.declared.state.Token.{Token}
 use Rattle.token.specs.State.{tries, contextOf, chainOf}
 use Rattle.token.specs.Limits.{inLimits}

@@ -1,11 +1,9 @@
 -- The state: "Kept over reset" and "Lost at reset". Record literals of the token stand here alone. Assumes nothing: these are definitions.
 use Prim.Native.Nat.{ℕ}
 use mathlib.Core.Bool.{Bool, true, false, cond, _&&_}
-use Rattle.values.specs.Days.{dayFits}
-use Rattle.values.specs.Points.{noPoint}
-use Rattle.values.specs.declared.day.Day.{Day}
-use Rattle.values.specs.declared.word.Word.{Word}
-use Rattle.values.specs.declared.word.Word.the-variants.{Done, Data}
+use Rattle.days.specs.Days.{dayFits}
+use Rattle.points.specs.Points.{noPoint}
+use Rattle.days.specs.declared.Day.{Day}
 use Rattle.trust.specs.Trust.{onePoint, pointsFit}
 use Rattle.trust.specs.declared.Points.{Points}
 use Rattle.standing.specs.declared.Chain.{Chain}
@@ -13,8 +11,7 @@ use Rattle.session.specs.declared.Context.{Context}
 use Rattle.session.specs.declared.Session.{Session}
 use Rattle.session.specs.Session.{noSession}
 use Rattle.token.specs.declared.state.Token.{Token}
-use Rattle.token.specs.declared.state.Made.{Made}
-use Rattle.token.specs.declared.state.Made.the-variants.{Accepted, Unfit}
+use Rattle.status.specs.declared.Intake.the-variants.{Accepted, Unfit}
 use Rattle.token.specs.declared.state.Personalised.{Personalised}
 
 -- "PIN counter 0..3 (start 3)", "PUK uses left 0..10 (start 10)"
@@ -63,10 +60,6 @@ startOf h d = record { pin = tries; active = true; puk = uses; today = d; points
 
 unfoldable pub noToken : Token
 noToken = record { pin = 0; active = false; puk = 0; today = record { 0 = 0 }; points = onePoint noPoint; session = noSession }
-
-abbrev pub madeWord : Made → Word
-madeWord Accepted = Done
-madeWord Unfit = Data
 
 -- "Personalise takes one or two trust points and a date (newest point first), refuses bad names, bad dates, roles other than
 -- CVCA or equal names with 6A80"

@@ -4,9 +4,9 @@ use mathlib.Core.Bool.{cond}
 use mathlib.Core.List.{List, []}
 use lib.Dec.{ltb}
 use lib.ListN.{length, take}
-use Rattle.settle.specs.declared.course.Note.{Note}
-use Rattle.settle.specs.declared.verdict.Answered.{Answered}
-use Rattle.settle.specs.declared.verdict.Happened.{Happened}
+use Rattle.course.specs.declared.Note.{Note}
+use Rattle.settle.specs.declared.Answered.{Answered}
+use Rattle.settle.specs.declared.Happened.{Happened}
 use Rattle.settle.specs.Settle.{settleOf}
 use Rattle.reply.specs.Reply.{room}
 use Rattle.answer.specs.Answer.{replyTo}

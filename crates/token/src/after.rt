@@ -1,22 +1,23 @@
 // The only place where the token changes: one arm an event.
 ghost use mathlib.Core.Path.{_≡_};
 ghost use Rattle.token.specs.After.{choiceTaken, stepPassed, opened, runClosed, trialLost, issuerSelected, linkTaken, dvTaken, extended, terminalTaken, announced, staged, unblockedByPuk, unblocked, activated, triesAfter, afterOf};
+ghost use Rattle.standing.specs.declared.Stage.the-variants.{Announced};
 use super::state::Token;
 use event::happening::Event;
 use event::happening::Issuer;
+use keys::Key;
+use points::Point;
+use points::today_after;
 use rights::Granted;
 use rights::Rights;
 use run::Choice;
 use run::Step;
 use session::Session;
-use settle::verdict::Happened;
+use settle::Happened;
 use standing::Chain;
 use standing::Opened;
 use standing::Reach;
 use standing::Stage;
-use strings::key::Key;
-use values::point::Point;
-use values::point::today_after;
 
 // The PIN's tries when a session opens with this choice.
 fn tries_after(choice: Choice, pin: u8) -> u8
@@ -56,6 +57,16 @@ impl Token {
     {
         let z = self.session;
         let s = z.at(stage);
+        self.session = s;
+        self
+    }
+
+    // The challenge is spent.
+    fn proof_lost(mut self) -> Self
+        ensures { λ r. ⌜ r ≡ staged self Announced ⌝ }
+    {
+        let z = self.session;
+        let s = z.proof_lost();
         self.session = s;
         self
     }
@@ -117,8 +128,7 @@ impl Token {
         let z = self.session;
         let d = self.today;
         let points = h.linked(link);
-        let chain = Chain::none();
-        let session = z.chained(chain);
+        let session = z.unchained();
         let today = d.later(link.first);
         self.points = points;
         self.session = session;
@@ -189,7 +199,7 @@ impl Token {
     fn unblocked_by_puk(mut self) -> Self
         ensures { λ r. ⌜ r ≡ unblockedByPuk self ⌝ }
     {
-        let left = order::less_one(self.puk);
+        let left = outcome::less_one(self.puk);
         self.pin = Token::TRIES;
         self.puk = left;
         self
@@ -223,7 +233,7 @@ impl Token {
             Event::Announced => self.announced(key),
             Event::Challenged => self.staged(Stage::Challenged),
             Event::Proven => self.staged(Stage::Proven),
-            Event::ProofLost => self.staged(Stage::Announced),
+            Event::ProofLost => self.proof_lost(),
             Event::ChipKeyChosen => self.staged(Stage::ChipKeyChosen),
             Event::Authenticated => self.staged(Stage::Authenticated),
             Event::ChipLost => self.staged(Stage::Proven),

@@ -1,21 +1,19 @@
 // All checks before the verdict, in document 01's order.
 ghost use mathlib.Core.Path.{_≡_};
-ghost use Rattle.settle.specs.Course.{courseJob};
+ghost use Rattle.course.specs.Course.{courseJob};
 ghost use Rattle.token.specs.Plan.{commandOf, timedOf, requestedOf, planOf};
 use super::state::Token;
-use checks::certify;
-use checks::commands;
 use command::kind::Kind;
+use course::Guard;
+use course::Job;
+use course::Note;
+use course::Plan;
 use event::happening::Event;
 use event::happening::Refusal;
 use fields::asked::Ask;
 use fields::asked::Asked;
 use fields::asked::Request;
-use grounds::moment::moment;
-use settle::course::Guard;
-use settle::course::Job;
-use settle::course::Note;
-use settle::course::Plan;
+use moment::moment;
 
 impl Token {
     // The command's own checks, data first.
@@ -34,23 +32,23 @@ impl Token {
             Ask::Bad => Plan::settled(Event::Refused(Refusal::Data)),
             Ask::Choose(choice) => {
                 let o = context.opened;
-                commands::choose(self.pin, self.active, self.puk, o, choice)
+                checks::choose(self.pin, self.active, self.puk, o, choice)
             }
-            Ask::General(content) => commands::general(context, self.pin, content),
+            Ask::General(content) => checks::general(context, self.pin, content),
             Ask::Select => certify::select(points, chain, name),
             Ask::Verify => {
                 let selected = session.selected;
                 certify::verify(points, dv, self.today, selected, name, a.point)
             }
-            Ask::Announce => commands::announce(terminal.name, name, key),
+            Ask::Announce => checks::announce(terminal.name, name, key),
             Ask::Challenge => Plan::awaits(Job::Challenge, Event::Challenged, Event::NotPassed),
             Ask::Prove => Plan::awaits(Job::Proof, Event::Proven, Event::ProofLost),
             Ask::ChooseChipKey => Plan::settled(Event::ChipKeyChosen),
-            Ask::Read(group) => commands::read(context, group),
-            Ask::ChangePin => commands::change_pin(context, self.active),
-            Ask::Unblock => commands::unblock(context, self.puk == 0, self.pin == Token::TRIES),
-            Ask::Activate => commands::set_active(context, Event::Activated),
-            Ask::Deactivate => commands::set_active(context, Event::Deactivated),
+            Ask::Read(group) => checks::read(context, group),
+            Ask::ChangePin => checks::change_pin(context, self.active),
+            Ask::Unblock => checks::unblock(context, self.puk == 0, self.pin == Token::TRIES),
+            Ask::Activate => checks::set_active(context, Event::Activated),
+            Ask::Deactivate => checks::set_active(context, Event::Deactivated),
         }
     }
 

@@ -1,14 +1,14 @@
 // The state, nested by value: what is kept over reset, and the session.
 ghost use mathlib.Core.Path.{_≡_};
 ghost use Rattle.trust.specs.Trust.{onePoint, twoPoints};
-ghost use Rattle.token.specs.State.{startOf, noToken, madeWord, madeOf, resetOf};
+ghost use Rattle.token.specs.State.{startOf, noToken, madeOf, resetOf};
+use days::Day;
+use keys::Key;
+use names::Name;
+use points::Point;
 use session::Session;
-use strings::key::Key;
-use strings::name::Name;
+use status::Intake;
 use trust::Points;
-use values::day::Day;
-use values::point::Point;
-use values::word::Word;
 
 pub struct Token {
     pub pin: u8,
@@ -19,27 +19,9 @@ pub struct Token {
     pub session: Session,
 }
 
-// How a personalisation was answered.
-pub enum Made {
-    Accepted,
-    Unfit,
-}
-
-impl Made {
-    // The word of a personalisation: 9000, or 6A80.
-    pub fn word(self) -> Word
-        ensures { λ r. ⌜ r ≡ madeWord self ⌝ }
-    {
-        match self {
-            Made::Accepted => Word::Done,
-            Made::Unfit => Word::Data,
-        }
-    }
-}
-
 // A personalisation's answer; `none` values where it was refused.
 pub struct Personalised {
-    pub made: Made,
+    pub made: Intake,
     pub token: Token,
 }
 
@@ -98,13 +80,13 @@ impl Token {
         if good & dated {
             let token = Token::start(points, today);
             return Personalised {
-                made: Made::Accepted,
+                made: Intake::Accepted,
                 token: token,
             };
         }
         let token = Token::none();
         Personalised {
-            made: Made::Unfit,
+            made: Intake::Unfit,
             token: token,
         }
     }

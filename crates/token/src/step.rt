@@ -4,8 +4,8 @@ ghost use lib.ListN.{length};
 ghost use Rattle.reply.specs.Lay.{Written};
 ghost use Rattle.token.specs.Step.{stepOf};
 use super::state::Token;
-use settle::course::Note;
-use settle::verdict::Answered;
+use course::Note;
+use settle::Answered;
 
 // What a step hands back: the token, and the reply's length.
 pub struct Outcome {
@@ -33,7 +33,7 @@ impl Token {
             };
         }
         let p = self.plan(s, note);
-        let h = p.settle(result, first, second);
+        let h = settle::settle(p, result, first, second);
         let e = h.event;
         let n = h.answer;
         let next = self.after(h);

@@ -2,11 +2,11 @@
 use borrow.Author.Needs.{needs}
 use mathlib.Core.Bool.{Bool, true, false, not, _&&_, _||_}
 use mathlib.Core.Path.{_≡_}
-use Rattle.strings.specs.Names.{sameName}
+use Rattle.names.specs.Names.{sameName}
 use Rattle.rights.specs.Rights.{roleOf, isCvca}
-use Rattle.values.specs.Points.{noPoint, pointFits}
-use Rattle.strings.specs.declared.name.Name.{Name}
-use Rattle.values.specs.declared.point.Point.{Point}
+use Rattle.points.specs.Points.{noPoint, pointFits}
+use Rattle.names.specs.declared.Name.{Name}
+use Rattle.points.specs.declared.Point.{Point}
 use Rattle.rights.specs.declared.Role.{Role}
 use Rattle.event.specs.declared.happening.Issuer.the-variants.{Newest, Previous}
 use Rattle.trust.specs.Trust.{anchorFits, onePoint, pointsFit, knows, found}

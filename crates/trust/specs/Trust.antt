@@ -1,10 +1,10 @@
 -- "newest trust point and perhaps a previous one". Assumes nothing: these are definitions.
 use mathlib.Core.Bool.{Bool, true, false, cond, not, _&&_, _||_}
-use Rattle.strings.specs.Names.{sameName}
+use Rattle.names.specs.Names.{sameName}
 use Rattle.rights.specs.Rights.{roleOf, isCvca}
-use Rattle.values.specs.Points.{noPoint, pointFits}
-use Rattle.strings.specs.declared.name.Name.{Name}
-use Rattle.values.specs.declared.point.Point.{Point}
+use Rattle.points.specs.Points.{noPoint, pointFits}
+use Rattle.names.specs.declared.Name.{Name}
+use Rattle.points.specs.declared.Point.{Point}
 use Rattle.event.specs.declared.happening.Issuer.{Issuer}
 use Rattle.event.specs.declared.happening.Issuer.the-variants.{Newest, Previous, Dv}
 use Rattle.trust.specs.declared.Points.{Points}

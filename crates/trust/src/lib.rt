@@ -2,8 +2,8 @@
 ghost use mathlib.Core.Path.{_≡_};
 ghost use Rattle.trust.specs.Trust.{anchorFits, onePoint, twoPoints, pointsFit, knows, found, holderOf, linked};
 use event::happening::Issuer;
-use strings::name::Name;
-use values::point::Point;
+use names::Name;
+use points::Point;
 
 pub struct Points {
     pub newest: Point,

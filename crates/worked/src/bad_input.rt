@@ -6,7 +6,7 @@ use super::show::heading;
 use super::show::number;
 use super::show::write;
 use certificate::Answer;
-use strings::bytes::clip;
+use strings::clip;
 
 pub fn section() {
     heading(b"bad input");

@@ -3,15 +3,15 @@ ghost use Prim.Native.Nat.{_≤_};
 use super::show::heading;
 use super::show::number;
 use super::show::write;
+use course::Job;
+use course::Note;
+use days::Day;
+use names::Name;
+use points::Point;
 use rights::Rights;
-use settle::course::Job;
-use settle::course::Note;
-use settle::verdict::Answered;
-use settle::verdict::Verdict;
-use strings::name::Name;
+use settle::Answered;
+use settle::Verdict;
 use token::state::Token;
-use values::day::Day;
-use values::point::Point;
 
 // One, if a byte is still AA.
 fn still(b: u8) -> usize

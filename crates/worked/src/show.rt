@@ -1,10 +1,10 @@
 // Writes what was read as text.
 use certificate::Answer;
 use certificate::Body;
+use days::Day;
+use names::Name;
 use rights::Rights;
-use strings::name::Name;
-use values::day::Day;
-use values::word::Word;
+use status::Word;
 
 pub fn write(s: &[u8]) {
     io::write_all(1, s);
@@ -80,7 +80,7 @@ fn word(w: Word) {
 
 fn name(n: Name) {
     let b = n.bytes;
-    let m = strings::bytes::clip(n.len, Name::MOST);
+    let m = strings::clip(n.len, Name::MOST);
     write(&b[..m]);
     write(b" ");
 }

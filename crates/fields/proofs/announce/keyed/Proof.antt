@@ -1,7 +1,7 @@
 -- `fields::announce::keyed` meets its contract. Assumes nothing.
 use borrow.Author.Needs.{needs}
 use Rattle.fields.proofs.Ways.{takes}
-use Rattle.strings.specs.Keys.{isKey}
+use Rattle.keys.specs.Keys.{isKey}
 use Rattle.fields.proofs.announce.keyed.Statement.{statement}
 use Rattle.fields.proofs.announce.keyed.Tie as tie
 

@@ -1,0 +1,15 @@
+-- `bounds::granted_fits` meets its contract. Assumes nothing.
+use borrow.Author.Needs.{needs}
+use Rattle.bounds.proofs.Parts.{parts}
+use Rattle.bounds.proofs.granted_fits.Statement.{statement}
+use Rattle.bounds.proofs.granted_fits.Tie as tie
+
+pub granted-fits-spec : {M : Type 1} → statement M
+granted-fits-spec =
+    tie.close
+    (tie.spec
+    (λ c. search needs)
+    (λ c κs. search needs)
+    (λ c. search needs)
+    (λ c. search parts)
+    (λ c. search needs))

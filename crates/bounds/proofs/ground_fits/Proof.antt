@@ -1,0 +1,18 @@
+-- `bounds::ground_fits` meets its contract. Assumes nothing.
+use borrow.Author.Needs.{needs}
+use Rattle.bounds.proofs.Parts.{parts}
+use Rattle.bounds.proofs.ground_fits.Statement.{statement}
+use Rattle.bounds.proofs.ground_fits.Tie as tie
+
+pub ground-fits-spec : {M : Type 1} → statement M
+ground-fits-spec =
+    tie.close
+    (tie.spec
+    (λ c κs. search needs)
+    (λ c κs. search needs)
+    (λ c κs. search needs)
+    (λ c κs. search needs)
+    (λ c κs. search needs)
+    (λ c κs. search needs)
+    (λ c κs. search needs)
+    (λ c. search parts depth 9))

@@ -1,0 +1,64 @@
+-- Select issuer and verify certificate. Assumes nothing: these are definitions.
+use mathlib.Core.Bool.{Bool, cond, not, _&&_, _||_}
+use Rattle.names.specs.Names.{sameName}
+use Rattle.points.specs.Points.{expired}
+use Rattle.keys.specs.Keys.{noKey}
+use Rattle.rights.specs.Rights.{roleOf, isCvca, isTerminal}
+use Rattle.days.specs.declared.Day.{Day}
+use Rattle.names.specs.declared.Name.{Name}
+use Rattle.points.specs.declared.Point.{Point}
+use Rattle.rights.specs.declared.Role.{Role}
+use Rattle.event.specs.declared.happening.Refusal.the-variants.{Moment, NotFound}
+use Rattle.event.specs.declared.happening.Issuer.{Issuer}
+use Rattle.event.specs.declared.happening.Issuer.the-variants.{Dv}
+use Rattle.event.specs.declared.happening.Event.the-variants.{Refused, Selected as IsSelected}
+use Rattle.course.specs.declared.Course.{Course}
+use Rattle.course.specs.declared.Plan.{Plan}
+use Rattle.course.specs.Course.{settledBy}
+use Rattle.order.specs.Order.{verifyLadder}
+use Rattle.outcome.specs.Outcome.{issues, takenEvent}
+use Rattle.trust.specs.Trust.{found, knows, holderOf}
+use Rattle.trust.specs.declared.Points.{Points}
+use Rattle.trust.specs.declared.Anchor.{Anchor}
+use Rattle.trust.specs.declared.Anchor.the-variants.{Is, Unknown}
+use Rattle.standing.specs.declared.Selected.{Selected}
+use Rattle.standing.specs.declared.Selected.the-variants.{NoIssuer, Of}
+use Rattle.standing.specs.declared.Chain.{Chain}
+use Rattle.standing.specs.Standing.{hasDv}
+
+-- "Selectable: trust points and the chain's DV"; a name that is neither's is 6A88
+abbrev pub selectBy : Chain → Name → Anchor → Plan
+selectBy chain n (Is i) = settledBy (IsSelected i)
+selectBy chain n Unknown = cond (hasDv chain && sameName n (chain .dv .name)) (settledBy (IsSelected Dv)) (settledBy (Refused NotFound))
+
+unfoldable pub selectPlan : Points → Chain → Name → Plan
+selectPlan h chain n = selectBy chain n (found h n)
+
+-- "A new name differs from both trust points', a terminal's also from its DV's"
+unfoldable pub repeats : Points → Point → Name → Role → Bool
+repeats h dv n role = knows h n || (isTerminal role && sameName n (dv .name))
+
+-- "Unless it is a link, neither certificate nor issuer may have its last day before today"
+unfoldable pub late : Day → Point → Point → Role → Bool
+late today p holder role = not (isCvca role) && (expired p today || expired holder today)
+
+-- a certificate under an issuer with this certificate of its own
+abbrev pub heldCourse : Points → Point → Day → Issuer → Point → Name → Point → Role → Course
+heldCourse h dv today i holder n p role =
+    verifyLadder
+    (not (issues i role))
+    (repeats h dv (p .name) role)
+    (not (sameName n (holder .name)))
+    (late today p holder role)
+    (takenEvent role (holder .rights))
+
+unfoldable pub underCourse : Points → Point → Day → Issuer → Name → Point → Course
+underCourse h dv today i n p = heldCourse h dv today i (holderOf h i dv) n p (roleOf (p .rights))
+
+unfoldable pub underPlan : Points → Point → Day → Issuer → Name → Point → Plan
+underPlan h dv today i n p = record { course = underCourse h dv today i n p; point = p; key = noKey }
+
+-- under the selected issuer
+unfoldable pub verifyPlan : Points → Point → Day → Selected → Name → Point → Plan
+verifyPlan h dv today NoIssuer n p = settledBy (Refused Moment)
+verifyPlan h dv today (Of i) n p = underPlan h dv today i n p

@@ -1,0 +1,45 @@
+-- The ways a plan ends. Assumes nothing: these are definitions.
+use Prim.Native.Nat.{ℕ}
+use mathlib.Core.Bool.{Bool, cond}
+use Rattle.points.specs.Points.{noPoint}
+use Rattle.keys.specs.Keys.{noKey}
+use Rattle.event.specs.declared.happening.Loss.the-variants.{Unprotected, Broken}
+use Rattle.run.specs.Run.{stepNumber}
+use Rattle.event.specs.declared.happening.Event.{Event}
+use Rattle.course.specs.declared.Note.{Note}
+use Rattle.course.specs.declared.Note.the-variants.{Plain, Protected, Broken as BrokenNote}
+use Rattle.course.specs.declared.Guard.{Guard}
+use Rattle.course.specs.declared.Guard.the-variants.{Passes, Drops}
+use Rattle.course.specs.declared.Job.{Job}
+use Rattle.course.specs.declared.Job.the-variants.{Nothing, Step as StepJob, Certificate, Challenge, Proof, ChipKey, PinChange}
+use Rattle.course.specs.declared.Course.{Course}
+use Rattle.course.specs.declared.Course.the-variants.{Settled, Awaits}
+use Rattle.course.specs.declared.Plan.{Plan}
+
+-- with no certificate and no key
+unfoldable pub settledBy : Event → Plan
+settledBy e = record { course = Settled e; point = noPoint; key = noKey }
+
+unfoldable pub awaitsBy : Job → Event → Event → Plan
+awaitsBy j x y = record { course = Awaits j x y; point = noPoint; key = noKey }
+
+-- "6987 / 6988: plain while a session is open / broken, or protected with none open"
+abbrev pub guardOf : Note → Bool → Guard
+guardOf Plain opened = cond opened (Drops Unprotected) Passes
+guardOf Protected opened = cond opened Passes (Drops Broken)
+guardOf BrokenNote opened = Drops Broken
+
+-- the job that is wanted: none where no verdict is awaited
+abbrev pub courseJob : Course → Job
+courseJob (Settled e) = Nothing
+courseJob (Awaits j x y) = j
+
+-- the nine jobs; none is none of them
+abbrev pub jobNumber : Job → ℕ
+jobNumber Nothing = 0
+jobNumber (StepJob p) = stepNumber p
+jobNumber Certificate = 5
+jobNumber Challenge = 6
+jobNumber Proof = 7
+jobNumber ChipKey = 8
+jobNumber PinChange = 9

@@ -1,0 +1,25 @@
+-- "Select issuer: 83 name. Verify certificate: 7F4E, 5F37 (1 to 256 bytes)." Assumes nothing: these are definitions.
+use Prim.Native.Nat.{ℕ}
+use mathlib.Core.List.{List}
+use mathlib.Core.Bool.{false}
+use Rattle.names.specs.Names.{isName, nameOf}
+use Rattle.certificate.specs.Body.{signedOf}
+use Rattle.certificate.specs.declared.Body.{Body}
+use Rattle.status.specs.declared.Intake.{Intake}
+use Rattle.status.specs.declared.Intake.the-variants.{Accepted, Unfit}
+use Rattle.fields.specs.Taking.{reading, lastly}
+use Rattle.fields.specs.Given.{bad, selecting, verifying}
+use Rattle.fields.specs.declared.given.Given.{Given}
+
+-- 83 name
+unfoldable pub selectOf : List ℕ → Given
+selectOf s = reading bad s (lastly bad 0x83 false isName s (λ c. selecting (nameOf c)))
+
+-- the issuer's name is 42
+unfoldable pub verified : Intake → Body → Given
+verified Accepted b = verifying (b .issuer) (b .point)
+verified Unfit b = bad
+
+-- 7F4E, 5F37
+unfoldable pub verifyOf : List ℕ → Given
+verifyOf s = verified (signedOf s .answer) (signedOf s .body)

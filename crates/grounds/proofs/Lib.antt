@@ -1,4 +1,0 @@
-pub mod Moments
-pub mod Parts
-pub mod Authorizes
-pub mod Pinned

@@ -1,3 +1,0 @@
-pub mod Fits
-pub mod Moment
-pub mod Authorization

@@ -1,0 +1,28 @@
+-- What is kept of a good key is good, and is its bytes. Assumes nothing.
+use Prim.Native.Nat.{ℕ, _≤_, min}
+use native.Mathlib.Omega.{arith}
+use mathlib.Core.Path.{_≡_}
+use mathlib.Core.Bool.{true}
+use mathlib.Core.List.{List}
+use borrow.Author.Tests.{leb-true, le-leb}
+use lib.Dec.{leb}
+use lib.ListN.{length, replicate}
+use Rattle.laws.proofs.Bools.{and-l, and-r}
+use Rattle.keys.specs.Keys.{isKey, keyOf, keyBytes, keyFits, keyStands}
+use Rattle.strings.proofs.Strings.{kept}
+
+key-size : (c : List ℕ) → isKey c ≡ true → (1 ≤ length c) × (length c ≤ 66)
+unfolding isKey
+key-size c h = (leb-true 1 (length c) (and-l (leb 1 (length c)) (leb (length c) 66) h), leb-true (length c) 66 (and-r (leb 1 (length c)) (leb (length c) 66) h))
+
+pub key-bytes : (c : List ℕ) → isKey c ≡ true → keyBytes (keyOf c) ≡ c
+unfolding keyOf
+key-bytes c h = kept (replicate 66 0) c (key-size c h .1)
+
+pub key-good : (c : List ℕ) → isKey c ≡ true → keyFits (keyOf c) ≡ true
+unfolding keyFits keyOf
+key-good c h = le-leb (min (length c) 66) 66 (omega arith)
+
+pub key-there : (c : List ℕ) → isKey c ≡ true → keyStands (keyOf c) ≡ true
+unfolding keyStands keyOf
+key-there c h = let s = key-size c h in le-leb 1 (min (length c) 66) (omega arith)

@@ -1,0 +1,19 @@
+-- `names::Name::same` meets its contract. Assumes nothing.
+use borrow.Author.Needs.{needs}
+use Rattle.laws.proofs.Lists.{clip-in, clip-long}
+use Rattle.names.proofs.Contents.{contents}
+use Rattle.names.proofs.Name.same.Statement.{statement}
+use Rattle.names.proofs.Name.same.Tie as tie
+
+pub same-spec : {M : Type 1} → statement M
+same-spec =
+    tie.close
+    (tie.spec
+    (λ c κs. search needs)
+    (λ c κs. search needs)
+    (λ c. search (contents, clip-in, clip-long))
+    (λ c. search (contents, clip-in, clip-long))
+    (λ c. search (contents, clip-in, clip-long))
+    (λ c. search (contents, clip-in, clip-long))
+    (λ c κs. search needs)
+    (λ c. search (contents, clip-in, clip-long)))

@@ -1,0 +1,78 @@
+// Names of certificate holders.
+ghost use mathlib.Core.Path.{_≡_};
+ghost use Rattle.names.specs.Names.{isName, nameOf, noName, nameFits, sameName};
+use strings::Class;
+use strings::all;
+use strings::clip;
+use strings::copy;
+use strings::same;
+
+// A name's bytes, and zeros after them.
+pub struct Name {
+    pub bytes: [u8; 16],
+    pub len: usize,
+}
+
+// Whether a string is a name.
+pub fn is_name(s: &[u8]) -> bool
+    ensures { λ r. ⌜ r ≡ isName (now (s .entry)) ⌝ }
+{
+    let n = s.len();
+    if n < 8 {
+        return false;
+    }
+    if Name::MOST < n {
+        return false;
+    }
+    let m = n - 5;
+    let a = all(Class::Letter, &s[0..2]);
+    let b = all(Class::Latin, &s[2..m]);
+    let c = all(Class::Serial, &s[m..]);
+    a & b & c
+}
+
+impl Name {
+    pub const MOST: usize = 16;
+
+    pub fn none() -> Self
+        ensures { λ r. ⌜ r ≡ noName ⌝ }
+    {
+        Name {
+            bytes: [0u8; 16],
+            len: 0,
+        }
+    }
+
+    // A string kept as a name; what goes past the last place is cut.
+    pub fn of(s: &[u8]) -> Self
+        ensures { λ r. ⌜ r ≡ nameOf (now (s .entry)) ⌝ }
+    {
+        let mut bytes = [0u8; 16];
+        let n = copy(&mut bytes, s);
+        Name {
+            bytes: bytes,
+            len: n,
+        }
+    }
+
+    // Whether two names are the same, as far as their lengths go.
+    pub fn same(self, other: Name) -> bool
+        ensures { λ r. ⌜ r ≡ sameName self other ⌝ }
+    {
+        let p = self.bytes;
+        let m = clip(self.len, Name::MOST);
+        let q = other.bytes;
+        let n = clip(other.len, Name::MOST);
+        same(&p[..m], &q[..n])
+    }
+
+    // Whether a stored name is one.
+    pub fn fits(self) -> bool
+        ensures { λ r. ⌜ r ≡ nameFits self ⌝ }
+    {
+        let p = self.bytes;
+        let m = clip(self.len, Name::MOST);
+        let good = is_name(&p[..m]);
+        (self.len <= Name::MOST) & good
+    }
+}

@@ -1,0 +1,46 @@
+-- Two permitted outcomes of each public function are equal. Assumes nothing.
+use Prim.Native.Nat.{ℕ}
+use mathlib.Core.Bool.{Bool}
+use Rattle.laws.proofs.Pinned.{Pinned, pinned}
+use Rattle.days.specs.declared.Day.{Day}
+use Rattle.keys.specs.declared.Key.{Key}
+use Rattle.names.specs.declared.Name.{Name}
+use Rattle.points.specs.declared.Point.{Point}
+use Rattle.run.specs.declared.Choice.{Choice}
+use Rattle.event.specs.declared.happening.Event.{Event}
+use Rattle.course.specs.declared.Plan.{Plan}
+use Rattle.fields.specs.declared.asked.Content.{Content}
+use Rattle.trust.specs.declared.Points.{Points}
+use Rattle.standing.specs.declared.Opened.{Opened}
+use Rattle.standing.specs.declared.Chain.{Chain}
+use Rattle.session.specs.declared.Context.{Context}
+use Rattle.standing.specs.declared.Selected.{Selected}
+use Rattle.checks.specs.Commands.{choosePlan, generalPlan, announcePlan, readPlan, changePlan, unblockPlan, activePlan}
+use Rattle.certify.specs.Certify.{selectPlan, verifyPlan}
+
+pub choose-pinned : (pin puk : ℕ) (active : Bool) (opened : Opened) (c : Choice) → Pinned Plan (choosePlan pin active puk opened c)
+choose-pinned pin puk active opened c = pinned _
+
+pub general-pinned : (z : Context) (pin : ℕ) (x : Content) → Pinned Plan (generalPlan z pin (z .stage) x)
+general-pinned z pin x = pinned _
+
+pub announce-pinned : (terminal n : Name) (k : Key) → Pinned Plan (announcePlan terminal n k)
+announce-pinned terminal n k = pinned _
+
+pub read-pinned : (z : Context) (n : ℕ) → Pinned Plan (readPlan z n)
+read-pinned z n = pinned _
+
+pub change-pin-pinned : (z : Context) (active : Bool) → Pinned Plan (changePlan z active)
+change-pin-pinned z active = pinned _
+
+pub unblock-pinned : (z : Context) (used full : Bool) → Pinned Plan (unblockPlan z used full)
+unblock-pinned z used full = pinned _
+
+pub set-active-pinned : (z : Context) (done : Event) → Pinned Plan (activePlan z done)
+set-active-pinned z done = pinned _
+
+pub select-pinned : (h : Points) (chain : Chain) (n : Name) → Pinned Plan (selectPlan h chain n)
+select-pinned h chain n = pinned _
+
+pub verify-pinned : (h : Points) (dv : Point) (today : Day) (selected : Selected) (n : Name) (p : Point) → Pinned Plan (verifyPlan h dv today selected n p)
+verify-pinned h dv today selected n p = pinned _

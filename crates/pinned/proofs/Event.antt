@@ -1,0 +1,16 @@
+-- Two permitted outcomes of each public function are equal. Assumes nothing.
+use Rattle.laws.proofs.Pinned.{Pinned, pinned}
+use Rattle.status.specs.declared.Word.{Word}
+use Rattle.event.specs.Event.{refusalWord, lossWord, wordOf}
+use Rattle.event.specs.declared.happening.Refusal.{Refusal}
+use Rattle.event.specs.declared.happening.Loss.{Loss}
+use Rattle.event.specs.declared.happening.Event.{Event}
+
+pub refusal-word-pinned : (r : Refusal) → Pinned Word (refusalWord r)
+refusal-word-pinned r = pinned _
+
+pub loss-word-pinned : (l : Loss) → Pinned Word (lossWord l)
+loss-word-pinned l = pinned _
+
+pub word-pinned : (e : Event) → Pinned Word (wordOf e)
+word-pinned e = pinned _

@@ -1,0 +1,52 @@
+-- Two permitted outcomes of each public function are equal. Assumes nothing.
+use Prim.Native.Nat.{ℕ}
+use mathlib.Core.Bool.{Bool}
+use mathlib.Core.List.{List}
+use Rattle.laws.proofs.Pinned.{Pinned, pinned}
+use Rattle.days.specs.Days.{dated, dayFits, before, later}
+use Rattle.points.specs.Points.{noPoint, pointFits, expired, withKey, todayAfter}
+use Rattle.status.specs.Words.{number, intakeWord}
+use Rattle.days.specs.declared.Day.{Day}
+use Rattle.days.specs.declared.Dated.{Dated}
+use Rattle.points.specs.declared.Point.{Point}
+use Rattle.status.specs.declared.Intake.{Intake}
+use Rattle.status.specs.declared.Word.{Word}
+
+-- ---- day
+
+pub day-of-pinned : (s : List ℕ) → Pinned Dated (dated s)
+day-of-pinned s = pinned _
+
+pub day-fits-pinned : (d : Day) → Pinned Bool (dayFits d)
+day-fits-pinned d = pinned _
+
+pub before-pinned : (d other : Day) → Pinned Bool (before d other)
+before-pinned d other = pinned _
+
+pub later-pinned : (d other : Day) → Pinned Day (later d other)
+later-pinned d other = pinned _
+
+-- ---- point
+
+pub point-none-pinned : Pinned Point noPoint
+point-none-pinned = pinned _
+
+pub point-fits-pinned : (p : Point) → Pinned Bool (pointFits p)
+point-fits-pinned p = pinned _
+
+pub expired-pinned : (p : Point) (today : Day) → Pinned Bool (expired p today)
+expired-pinned p today = pinned _
+
+pub with-key-pinned : (p : Point) (key : ℕ) → Pinned Point (withKey p key)
+with-key-pinned p key = pinned _
+
+pub today-after-pinned : (dv terminal : Point) (today : Day) → Pinned Day (todayAfter dv terminal today)
+today-after-pinned dv terminal today = pinned _
+
+-- ---- word
+
+pub number-pinned : (w : Word) → Pinned ℕ (number w)
+number-pinned w = pinned _
+
+pub intake-word-pinned : (i : Intake) → Pinned Word (intakeWord i)
+intake-word-pinned i = pinned _

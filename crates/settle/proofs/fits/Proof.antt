@@ -1,0 +1,26 @@
+-- `settle::fits` meets its contract. Assumes nothing.
+use borrow.Author.Needs.{needs}
+use Rattle.settle.proofs.Small.{small}
+use Rattle.settle.proofs.fits.Statement.{statement}
+use Rattle.settle.proofs.fits.Tie as tie
+
+pub fits-spec : {M : Type 1} → statement M
+fits-spec =
+    tie.close
+    (tie.spec
+    (λ c. search needs)
+    (λ c. search needs)
+    (λ c κs. search needs)
+    (λ c. search small)
+    (λ c. search needs)
+    (λ c. search needs)
+    (λ c. search needs)
+    (λ c. search needs)
+    (λ c. search needs)
+    (λ c. search needs)
+    (λ c. search small)
+    (λ c. search small)
+    (λ c. search small)
+    (λ c. search small)
+    (λ c. search small)
+    (λ c. search small))

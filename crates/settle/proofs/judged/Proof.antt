@@ -1,0 +1,18 @@
+-- `settle::judged` meets its contract. Assumes nothing.
+use borrow.Author.Needs.{needs}
+use Rattle.settle.proofs.Settles.{settles}
+use Rattle.settle.proofs.judged.Statement.{statement}
+use Rattle.settle.proofs.judged.Tie as tie
+
+pub judged-spec : {M : Type 1} → statement M
+judged-spec =
+    tie.close
+    (tie.spec
+    (λ c. search needs)
+    (λ c κs. search needs)
+    (λ c. search settles depth 8)
+    (λ c κs. search needs)
+    (λ c κs. search needs)
+    (λ c. search settles depth 8)
+    (λ c κs. search needs)
+    (λ c. search settles depth 8))

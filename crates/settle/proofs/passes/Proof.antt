@@ -1,0 +1,12 @@
+-- `settle::passes` meets its contract. Assumes nothing.
+use borrow.Author.Needs.{needs}
+use Rattle.settle.proofs.Small.{small}
+use Rattle.settle.proofs.passes.Statement.{statement}
+use Rattle.settle.proofs.passes.Tie as tie
+
+pub passes-spec : {M : Type 1} → statement M
+passes-spec =
+    tie.close
+    (tie.spec
+    (λ c κs. search needs)
+    (λ c. search small))

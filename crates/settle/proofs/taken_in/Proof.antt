@@ -1,0 +1,25 @@
+-- `settle::taken_in` meets its contract. Assumes nothing.
+use borrow.Author.Needs.{needs}
+use Rattle.settle.proofs.Small.{small}
+use Rattle.settle.proofs.taken_in.Statement.{statement}
+use Rattle.settle.proofs.taken_in.Tie as tie
+
+pub taken-in-spec : {M : Type 1} → statement M
+taken-in-spec =
+    tie.close
+    (tie.spec
+    (λ c. search needs)
+    (λ c. search needs)
+    (λ c. search needs)
+    (λ c κs. search needs)
+    (λ c. search needs)
+    (λ c. search needs)
+    (λ c. search needs)
+    (λ c. search needs)
+    (λ c. search needs)
+    (λ c. search needs)
+    (λ c. search small)
+    (λ c. search needs)
+    (λ c. search needs)
+    (λ c. search needs)
+    (λ c. search needs))

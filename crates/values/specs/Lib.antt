@@ -1,3 +1,0 @@
-pub mod Days
-pub mod Points
-pub mod Words
