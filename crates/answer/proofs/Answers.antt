@@ -5,7 +5,7 @@ use mathlib.Core.List.{List}
 use lib.ListN.{length}
 use Rattle.status.specs.Words.{number}
 use Rattle.status.specs.declared.Word.{Word}
-use Rattle.event.specs.declared.happening.Event.{Event}
+use Rattle.event.specs.declared.Event.{Event}
 use Rattle.event.specs.Event.{wordOf}
 use Rattle.trust.specs.declared.Points.{Points}
 use Rattle.reply.specs.declared.Layout.{Layout}

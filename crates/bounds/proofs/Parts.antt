@@ -4,12 +4,13 @@ use Prim.Native.Nat.{ℕ}
 use mathlib.Core.Bool.{Bool, true, not, _&&_, _||_}
 use mathlib.Core.Path.{_≡_, sym, ap}
 use lib.Dec.{leb, eqb}
-use Rattle.rights.specs.Rights.{rightsFit, roleOf, isCvca, isDv, isTerminal}
+use Rattle.rights.specs.Rights.{rightsFit, roleOf}
+use Rattle.roles.specs.Roles.{isCvca, isDv, isTerminal}
 use Rattle.points.specs.Points.{pointFits}
 use Rattle.keys.specs.Keys.{keyFits, keyStands}
 use Rattle.points.specs.declared.Point.{Point}
 use Rattle.rights.specs.declared.Rights.{Rights}
-use Rattle.rights.specs.declared.Role.{Role}
+use Rattle.roles.specs.declared.Role.{Role}
 use Rattle.rights.specs.declared.Granted.{Granted}
 use Rattle.rights.specs.declared.Granted.the-variants.{These}
 use Rattle.run.specs.declared.Choice.{Choice}
@@ -23,7 +24,7 @@ use Rattle.standing.specs.declared.Stage.{Stage}
 use Rattle.standing.specs.declared.Stage.the-variants.{Run}
 use Rattle.session.specs.declared.Context.{Context}
 use Rattle.standing.specs.Standing.{openedByPin, openedByCan, hasRights, hasDv, hasTerminal, rank}
-use Rattle.bounds.specs.Fits.{grantedFits, rootFits, dvFits, terminalFits, reachFits, chainFits, runFits, stageFits, groundFits, contextFits}
+use Rattle.bounds.specs.Bounds.{grantedFits, rootFits, dvFits, terminalFits, reachFits, chainFits, runFits, stageFits, groundFits, contextFits}
 
 pub granted-these : (g : Granted) (r : Rights) (b : Bool) → g ≡ These r → b ≡ rightsFit r → b ≡ grantedFits g
 granted-these g r b e f = rw e f

@@ -1,6 +1,6 @@
 // The limits of a session's parts.
 ghost use mathlib.Core.Path.{_≡_};
-ghost use Rattle.bounds.specs.Fits.{grantedFits, rootFits, dvFits, terminalFits, chainFits, runFits, stageFits, groundFits, contextFits};
+ghost use Rattle.bounds.specs.Bounds.{grantedFits, rootFits, dvFits, terminalFits, chainFits, runFits, stageFits, groundFits, contextFits};
 use points::Point;
 use rights::Granted;
 use rights::Rights;

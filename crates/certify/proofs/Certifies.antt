@@ -5,17 +5,18 @@ use mathlib.Core.Path.{_≡_, sym, ap, _∙_}
 use Rattle.names.specs.Names.{sameName}
 use Rattle.points.specs.Points.{expired}
 use Rattle.keys.specs.Keys.{noKey}
-use Rattle.rights.specs.Rights.{roleOf, isCvca, isTerminal}
+use Rattle.rights.specs.Rights.{roleOf}
+use Rattle.roles.specs.Roles.{isCvca, isTerminal}
 use Rattle.days.specs.declared.Day.{Day}
 use Rattle.names.specs.declared.Name.{Name}
 use Rattle.keys.specs.declared.Key.{Key}
 use Rattle.points.specs.declared.Point.{Point}
-use Rattle.rights.specs.declared.Role.{Role}
-use Rattle.event.specs.declared.happening.Refusal.the-variants.{NotFound}
-use Rattle.event.specs.declared.happening.Issuer.{Issuer}
-use Rattle.event.specs.declared.happening.Issuer.the-variants.{Dv}
-use Rattle.event.specs.declared.happening.Event.{Event}
-use Rattle.event.specs.declared.happening.Event.the-variants.{Refused, Selected as IsSelected}
+use Rattle.roles.specs.declared.Role.{Role}
+use Rattle.event.specs.declared.Refusal.the-variants.{NotFound}
+use Rattle.event.specs.declared.Issuer.{Issuer}
+use Rattle.event.specs.declared.Issuer.the-variants.{Dv}
+use Rattle.event.specs.declared.Event.{Event}
+use Rattle.event.specs.declared.Event.the-variants.{Refused, Selected as IsSelected}
 use Rattle.course.specs.declared.Course.{Course}
 use Rattle.course.specs.declared.Plan.{Plan}
 use Rattle.course.specs.Course.{settledBy}

@@ -4,13 +4,13 @@ ghost use Rattle.certify.specs.Certify.{selectPlan, repeats, late, under
 use course::Course;
 use course::Plan;
 use days::Day;
-use event::happening::Event;
-use event::happening::Issuer;
-use event::happening::Refusal;
+use event::Event;
+use event::Issuer;
+use event::Refusal;
 use keys::Key;
 use names::Name;
 use points::Point;
-use rights::Role;
+use roles::Role;
 use standing::Chain;
 use standing::Selected;
 use trust::Anchor;

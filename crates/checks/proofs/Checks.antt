@@ -15,9 +15,9 @@ use Rattle.run.specs.declared.Choice.{Choice}
 use Rattle.run.specs.declared.Password.{Password}
 use Rattle.run.specs.declared.Step.{Step}
 use Rattle.run.specs.Run.{passwordOf, isPin, isPuk, stepNumber}
-use Rattle.event.specs.declared.happening.Refusal.the-variants.{Lacking, Data, NotFound}
-use Rattle.event.specs.declared.happening.Event.{Event}
-use Rattle.event.specs.declared.happening.Event.the-variants.{Refused, Announced as IsAnnounced, Authenticated as IsAuthenticated, ChipLost, ReadAllowed, PinChanged, NotPassed}
+use Rattle.event.specs.declared.Refusal.the-variants.{Lacking, Data, NotFound}
+use Rattle.event.specs.declared.Event.{Event}
+use Rattle.event.specs.declared.Event.the-variants.{Refused, Announced as IsAnnounced, Authenticated as IsAuthenticated, ChipLost, ReadAllowed, PinChanged, NotPassed}
 use Rattle.course.specs.declared.Job.the-variants.{Step as StepJob, ChipKey, PinChange}
 use Rattle.course.specs.declared.Course.the-variants.{Settled, Awaits}
 use Rattle.course.specs.declared.Plan.{Plan}
@@ -31,7 +31,7 @@ use Rattle.session.specs.declared.Context.{Context}
 use Rattle.standing.specs.declared.Stage.{Stage}
 use Rattle.standing.specs.Standing.{openedByPin, openedByCan, openedByPuk}
 use Rattle.authorization.specs.Authorization.{authorization}
-use Rattle.checks.specs.Commands.{isFor, choosePlan, runPlan, chipPlan, generalPlan, announcePlan, readPlan, changePlan, unblockPlan, activePlan}
+use Rattle.checks.specs.Checks.{isFor, choosePlan, runPlan, chipPlan, generalPlan, announcePlan, readPlan, changePlan, unblockPlan, activePlan}
 
 pub is-step : (x : Content) (p q : Step) (a b : ℕ) → x ≡ StepData q → a ≡ stepNumber q → b ≡ stepNumber p → eqb a b ≡ isFor x p
 is-step x p q a b e f g = rw (e, f, g)

@@ -1,15 +1,15 @@
 // The checks of each command, certificates apart.
 ghost use mathlib.Core.Path.{_≡_};
 ghost use Rattle.course.specs.Course.{settledBy};
-ghost use Rattle.event.specs.declared.happening.Event.the-variants.{Refused};
-ghost use Rattle.event.specs.declared.happening.Refusal.the-variants.{Data};
-ghost use Rattle.checks.specs.Commands.{isFor, choosePlan, runPlan, chipPlan, generalPlan, announcePlan, readPlan, changePlan, unblockPlan, activePlan};
+ghost use Rattle.event.specs.declared.Event.the-variants.{Refused};
+ghost use Rattle.event.specs.declared.Refusal.the-variants.{Data};
+ghost use Rattle.checks.specs.Checks.{isFor, choosePlan, runPlan, chipPlan, generalPlan, announcePlan, readPlan, changePlan, unblockPlan, activePlan};
 use authorization::authorization;
 use course::Course;
 use course::Job;
 use course::Plan;
-use event::happening::Event;
-use event::happening::Refusal;
+use event::Event;
+use event::Refusal;
 use fields::asked::Content;
 use keys::Key;
 use names::Name;

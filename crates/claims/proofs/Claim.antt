@@ -28,11 +28,11 @@ use Rattle.reply.specs.Reply as reply
 use Rattle.trust.specs.Trust.{anchorFits, onePoint, pointsFit, knows, found, linked}
 use Rattle.standing.specs.Standing.{noChain}
 use Rattle.moment.specs.Moment.{momentOf}
-use Rattle.bounds.specs.Fits.{rootFits, dvFits, terminalFits, chainFits, groundFits, contextFits}
+use Rattle.bounds.specs.Bounds.{rootFits, dvFits, terminalFits, chainFits, groundFits, contextFits}
 use Rattle.authorization.specs.Authorization.{sharedBy, authorization}
 use Rattle.token.specs.State.{startOf}
 use Rattle.token.specs.Limits.{inLimits}
-use Rattle.checks.specs.Commands.{choosePlan, runPlan, generalPlan, readPlan}
+use Rattle.checks.specs.Checks.{choosePlan, runPlan, generalPlan, readPlan}
 use Rattle.certify.specs.Certify.{repeats, late, underCourse, underPlan, verifyPlan}
 use Rattle.token.specs.Plan.{commandOf, timedOf, requestedOf, guarded, planOf}
 use Rattle.token.specs.After.{choiceTaken, runClosed, trialLost, linkTaken, dvTaken, terminalTaken, afterOf}

@@ -19,8 +19,8 @@ use Rattle.run.specs.declared.Password.{Password}
 use Rattle.run.specs.declared.Password.the-variants.{Can, Pin}
 use Rattle.run.specs.declared.Choice.the-variants.{Pin as ChosenPin}
 use Rattle.run.specs.declared.Step.the-variants.{Confirm}
-use Rattle.event.specs.declared.happening.Issuer.{Issuer}
-use Rattle.event.specs.declared.happening.Issuer.the-variants.{Newest, Dv}
+use Rattle.event.specs.declared.Issuer.{Issuer}
+use Rattle.event.specs.declared.Issuer.the-variants.{Newest, Dv}
 use Rattle.course.specs.declared.Note.the-variants.{Plain, Protected}
 use Rattle.course.specs.declared.Job.the-variants.{Nothing, Step, Certificate}
 use Rattle.settle.specs.declared.Answered.{Answered}

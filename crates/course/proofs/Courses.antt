@@ -7,7 +7,7 @@ use Rattle.points.specs.Points.{noPoint}
 use Rattle.keys.specs.Keys.{noKey}
 use Rattle.points.specs.declared.Point.{Point}
 use Rattle.keys.specs.declared.Key.{Key}
-use Rattle.event.specs.declared.happening.Event.{Event}
+use Rattle.event.specs.declared.Event.{Event}
 use Rattle.course.specs.declared.Note.{Note}
 use Rattle.course.specs.declared.Guard.{Guard}
 use Rattle.course.specs.declared.Job.{Job}

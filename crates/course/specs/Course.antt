@@ -3,9 +3,9 @@ use Prim.Native.Nat.{ℕ}
 use mathlib.Core.Bool.{Bool, cond}
 use Rattle.points.specs.Points.{noPoint}
 use Rattle.keys.specs.Keys.{noKey}
-use Rattle.event.specs.declared.happening.Loss.the-variants.{Unprotected, Broken}
+use Rattle.event.specs.declared.Loss.the-variants.{Unprotected, Broken}
 use Rattle.run.specs.Run.{stepNumber}
-use Rattle.event.specs.declared.happening.Event.{Event}
+use Rattle.event.specs.declared.Event.{Event}
 use Rattle.course.specs.declared.Note.{Note}
 use Rattle.course.specs.declared.Note.the-variants.{Plain, Protected, Broken as BrokenNote}
 use Rattle.course.specs.declared.Guard.{Guard}

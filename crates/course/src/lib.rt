@@ -1,8 +1,8 @@
 // The ways a plan ends, the jobs it may want, and what a note does to a session.
 ghost use mathlib.Core.Path.{_≡_};
 ghost use Rattle.course.specs.Course.{settledBy, awaitsBy, guardOf, courseJob, jobNumber};
-use event::happening::Event;
-use event::happening::Loss;
+use event::Event;
+use event::Loss;
 use keys::Key;
 use points::Point;
 use run::Step;

@@ -1,13 +1,13 @@
 // A desk for trying a token by hand: a line from standard input, its answer to standard output.
-ghost use mathlib.Core.Path.{_≡_};
-ghost use Prim.Native.Nat.{_+_, _<_};
-use lines::ANSWER;
-use lines::Desk;
-use lines::LINE;
+ghost use Prim.Native.Nat.{_<_};
+use laid::Desk;
 use lines::answer;
 use text::find;
 use text::front;
+use text::past;
 use text::put;
+use wording::ANSWER;
+use wording::LINE;
 
 // The desk, and how much of a line is kept so far.
 struct Fed {
@@ -41,14 +41,6 @@ fn write(out: [u8; ANSWER], len: usize) {
     }
 }
 
-// The next place of a string of n bytes.
-fn past(at: usize, n: usize) -> usize
-    requires { ⌜ at < n ⌝ }
-    ensures { λ r. ⌜ r ≡ at + 1 ⌝ }
-{
-    at + 1
-}
-
 // A part of a line, with which the line may end: then it is answered.
 fn take(f: Fed, part: &[u8], ends: bool, line: &mut [u8]) -> Fed {
     let desk = f.desk;
@@ -75,9 +67,6 @@ fn feed(f: Fed, input: &[u8], line: &mut [u8]) -> Fed {
         let ends = e < input.len();
         let next = take(f, &input[i..e], ends, &mut *line);
         f = next;
-        if input.len() <= e {
-            return f;
-        }
         i = past(e, input.len());
     }
     f

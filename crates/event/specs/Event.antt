@@ -5,12 +5,12 @@ use lib.Dec.{ltb}
 use Rattle.status.specs.declared.Word.{Word}
 use Rattle.status.specs.declared.Word.the-variants.{Done, Tries, NotPassed as BadVerdict, Length as W6700, Lacking as W6982, Blocked as W6983, Expired as W6984, Moment as W6985, Unprotected as W6987, Broken as W6988, Data as W6A80, Parameters as W6A86, NotFound as W6A88, Instruction as W6D00, Class as W6E00, Outside as W6F00}
 use Rattle.run.specs.declared.Choice.{Choice}
-use Rattle.event.specs.declared.happening.Refusal.{Refusal}
-use Rattle.event.specs.declared.happening.Refusal.the-variants.{Length, Lacking, Blocked, Expired, Moment, Data, Parameters, NotFound, Instruction, Class, Outside}
-use Rattle.event.specs.declared.happening.Loss.{Loss}
-use Rattle.event.specs.declared.happening.Loss.the-variants.{Unprotected, Broken}
-use Rattle.event.specs.declared.happening.Event.{Event}
-use Rattle.event.specs.declared.happening.Event.the-variants.{Refused, Lost, Chosen, StepPassed, Opened, RunClosed, TrialLost, Selected, LinkTaken, DvTaken, TerminalTaken, Announced, Challenged, Proven, ProofLost, ChipKeyChosen, Authenticated, ChipLost, ReadAllowed, PinChanged, UnblockedByPuk, UnblockedByRight, Activated, Deactivated, NotPassed}
+use Rattle.event.specs.declared.Refusal.{Refusal}
+use Rattle.event.specs.declared.Refusal.the-variants.{Length, Lacking, Blocked, Expired, Moment, Data, Parameters, NotFound, Instruction, Class, Outside}
+use Rattle.event.specs.declared.Loss.{Loss}
+use Rattle.event.specs.declared.Loss.the-variants.{Unprotected, Broken}
+use Rattle.event.specs.declared.Event.{Event}
+use Rattle.event.specs.declared.Event.the-variants.{Refused, Lost, Chosen, StepPassed, Opened, RunClosed, TrialLost, Selected, LinkTaken, DvTaken, TerminalTaken, Announced, Challenged, Proven, ProofLost, ChipKeyChosen, Authenticated, ChipLost, ReadAllowed, PinChanged, UnblockedByPuk, UnblockedByRight, Activated, Deactivated, NotPassed}
 use Rattle.run.specs.Run.{passwordOf, isPin}
 
 abbrev pub refusalWord : Refusal → Word

@@ -13,7 +13,7 @@ use Rattle.command.specs.Form.{formOf, afterHeader, bodyOf, shortOf, afterShort
 use Rattle.command.specs.Kind.{kindOf}
 use Rattle.command.specs.Shape.{shapeOf, headedOf}
 use Rattle.command.specs.declared.kind.Kind.the-variants.{SelectIssuer, ChangePin as KindPin}
-use Rattle.event.specs.declared.happening.Refusal.the-variants.{Instruction}
+use Rattle.event.specs.declared.Refusal.the-variants.{Instruction}
 use Rattle.run.specs.declared.Choice.the-variants.{Can, PinFor}
 use Rattle.run.specs.declared.Step.the-variants.{Nonce}
 use Rattle.fields.specs.Taking.{reading, lastly, fitted, lastOf, holds}

@@ -47,7 +47,7 @@ use Rattle.command.proofs.Shapes.{data-starts, data-ends}
 use Rattle.certificate.specs.Body.{signedOf}
 use Rattle.certificate.specs.declared.Reading.{Reading}
 use Rattle.status.specs.declared.Intake.the-variants.{Accepted, Unfit}
-use Rattle.event.specs.declared.happening.Refusal.{Refusal}
+use Rattle.event.specs.declared.Refusal.{Refusal}
 use Rattle.fields.specs.Taking.{sized, fitted, lastOf, holds}
 use Rattle.fields.specs.Given.{only, bad, selecting, verifying, announcing}
 use Rattle.fields.specs.Choice.{passwordThen, rightsThen, chosen, chosenFor, chosenBy}

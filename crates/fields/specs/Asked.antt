@@ -13,8 +13,8 @@ use Rattle.command.specs.declared.Fault.{Fault}
 use Rattle.command.specs.declared.Fault.the-variants.{Form, Class, Instruction, Parameters, Presence}
 use Rattle.command.specs.declared.Shape.{Shape}
 use Rattle.command.specs.declared.Shape.the-variants.{Command, Faulty}
-use Rattle.event.specs.declared.happening.Refusal.{Refusal}
-use Rattle.event.specs.declared.happening.Refusal.the-variants.{Length as W6700, Class as W6E00, Instruction as W6D00, Parameters as W6A86}
+use Rattle.event.specs.declared.Refusal.{Refusal}
+use Rattle.event.specs.declared.Refusal.the-variants.{Length as W6700, Class as W6E00, Instruction as W6D00, Parameters as W6A86}
 use Rattle.fields.specs.Given.{only}
 use Rattle.fields.specs.Choice.{choiceOf}
 use Rattle.fields.specs.Held.{generalOf}

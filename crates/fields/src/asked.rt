@@ -1,6 +1,6 @@
 // What a command may ask for.
 use command::kind::Kind;
-use event::happening::Refusal;
+use event::Refusal;
 use keys::Key;
 use names::Name;
 use points::Point;

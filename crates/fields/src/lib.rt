@@ -7,7 +7,7 @@ use asked::Request;
 use command::Fault;
 use command::Shape;
 use command::kind::Kind;
-use event::happening::Refusal;
+use event::Refusal;
 use given::Given;
 use keys::Key;
 use names::Name;

@@ -1,129 +1,19 @@
 // What a token keeps, and its session.
-use super::say;
-use super::words::label;
-use super::words::spaces;
 use authorization::authorization;
-use days::Day;
-use event::happening::Issuer;
-use rights::Granted;
-use rights::Rights;
-use run::Password;
-use standing::Chain;
-use standing::Opened;
-use standing::Selected;
-use standing::Stage;
-use text::put;
 use token::state::Token;
-use trust::Points;
+use wording::state::kept;
+use wording::state::lost;
+use wording::words::spaces;
 
-fn counters(out: &mut [u8], pin: u8, active: bool, puk: u8) -> usize {
-    let a = say::number(&mut *out, 0, b"pin=", pin as u64);
-    let b = label(&mut *out, a, b" active=no\n active=yes", active as usize);
-    say::number(&mut *out, b, b" puk=", puk as u64)
-}
-
-fn trusted(out: &mut [u8], at: usize, today: Day, p: Points) -> usize {
-    let newest = p.newest;
-    let previous = p.previous;
-    let a = say::day(&mut *out, at, b" today=", today);
-    let b = say::name(&mut *out, a, b" newest=", true, newest.name);
-    say::name(&mut *out, b, b" previous=", p.two, previous.name)
-}
-
-fn opener(o: Opened) -> usize {
-    let Opened::By(password) = o else {
-        return 0;
-    };
-    match password {
-        Password::Mrz => 1,
-        Password::Can => 2,
-        Password::Pin => 3,
-        Password::Puk => 4,
-    }
-}
-
-fn reached(s: Stage) -> usize {
-    match s {
-        Stage::Idle => 0,
-        Stage::Run(_, step) => step.number() as usize,
-        Stage::Announced => 5,
-        Stage::Challenged => 6,
-        Stage::Proven => 7,
-        Stage::ChipKeyChosen => 8,
-        Stage::Authenticated => 9,
-    }
-}
-
-fn granted(out: &mut [u8], at: usize, g: Granted) -> usize {
-    let Granted::These(r) = g else {
-        return put(&mut *out, at, b" confirmed=none");
-    };
-    say::rights(&mut *out, at, b" confirmed=", r)
-}
-
-fn opened(out: &mut [u8], at: usize, o: Opened, s: Stage, g: Granted) -> usize {
-    let a = label(
-        &mut *out,
-        at,
-        b" opened=none\n opened=mrz\n opened=can\n opened=pin\n opened=puk",
-        opener(o),
-    );
-    let b = label(
-        &mut *out,
-        a,
-        b" stage=idle\n stage=step1\n stage=step2\n stage=step3\n stage=step4\n stage=announced\n stage=challenged\n stage=proven\n stage=chosen\n stage=authenticated",
-        reached(s),
-    );
-    granted(&mut *out, b, g)
-}
-
-fn chained(out: &mut [u8], at: usize, c: Chain) -> usize {
-    let dv = c.dv;
-    let terminal = c.terminal;
-    let one = c.has_dv();
-    let two = c.has_terminal();
-    let a = say::name(&mut *out, at, b" dv=", one, dv.name);
-    say::name(&mut *out, a, b" terminal=", two, terminal.name)
-}
-
-fn issuer(s: Selected) -> usize {
-    let Selected::Of(i) = s else {
-        return 0;
-    };
-    match i {
-        Issuer::Newest => 1,
-        Issuer::Previous => 2,
-        Issuer::Dv => 3,
-    }
-}
-
-fn ended(out: &mut [u8], at: usize, s: Selected, r: Rights) -> usize {
-    let a = label(
-        &mut *out,
-        at,
-        b" selected=none\n selected=newest\n selected=previous\n selected=dv",
-        issuer(s),
-    );
-    say::rights(&mut *out, a, b" effective=", r)
-}
-
-pub(crate) fn state(t: Token, line: &[u8], out: &mut [u8]) -> usize {
+pub(crate) fn state(token: Token, line: &[u8], out: &mut [u8]) -> usize {
     if spaces(line) != 0 {
         return 0;
     }
-    let today = t.today;
-    let points = t.points;
-    let session = t.session;
-    let selected = session.selected;
+    let today = token.today;
+    let points = token.points;
+    let session = token.session;
     let context = session.context;
-    let who = context.opened;
-    let which = context.stage;
-    let confirmed = context.confirmed;
-    let chain = context.chain;
     let effective = authorization(context);
-    let a = counters(&mut *out, t.pin, t.active, t.puk);
-    let b = trusted(&mut *out, a, today, points);
-    let c = opened(&mut *out, b, who, which, confirmed);
-    let d = chained(&mut *out, c, chain);
-    ended(&mut *out, d, selected, effective)
+    let at = kept(&mut *out, token.pin, token.active, token.puk, today, points);
+    lost(&mut *out, at, session, effective)
 }

@@ -3,9 +3,9 @@
 use Prim.Native.Nat.{ℕ}
 use mathlib.Core.Bool.{Bool, cond, not, _&&_, _||_}
 use Rattle.run.specs.declared.Choice.{Choice}
-use Rattle.event.specs.declared.happening.Refusal.the-variants.{Lacking, Blocked, Expired, Moment, Data, NotFound}
-use Rattle.event.specs.declared.happening.Event.{Event}
-use Rattle.event.specs.declared.happening.Event.the-variants.{Refused, Chosen, UnblockedByPuk, UnblockedByRight, NotPassed}
+use Rattle.event.specs.declared.Refusal.the-variants.{Lacking, Blocked, Expired, Moment, Data, NotFound}
+use Rattle.event.specs.declared.Event.{Event}
+use Rattle.event.specs.declared.Event.the-variants.{Refused, Chosen, UnblockedByPuk, UnblockedByRight, NotPassed}
 use Rattle.course.specs.declared.Job.the-variants.{Certificate}
 use Rattle.course.specs.declared.Course.{Course}
 use Rattle.course.specs.declared.Course.the-variants.{Settled, Awaits}

@@ -4,11 +4,11 @@ ghost use Rattle.order.specs.Order.{chooseLadder, verifyLadder, grounded
 ghost use Prim.Native.Nat.{_-_};
 use course::Course;
 use course::Job;
-use event::happening::Event;
-use event::happening::Issuer;
-use event::happening::Refusal;
+use event::Event;
+use event::Issuer;
+use event::Refusal;
 use rights::Rights;
-use rights::Role;
+use roles::Role;
 use run::Choice;
 use run::Step;
 

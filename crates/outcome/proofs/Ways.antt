@@ -4,13 +4,13 @@ use Prim.Native.Nat.{ℕ, _-_}
 use mathlib.Core.Bool.{Bool, true, false}
 use mathlib.Core.Path.{_≡_, sym, ap, _∙_}
 use Rattle.rights.specs.declared.Rights.{Rights}
-use Rattle.rights.specs.declared.Role.{Role}
+use Rattle.roles.specs.declared.Role.{Role}
 use Rattle.run.specs.declared.Choice.{Choice}
 use Rattle.run.specs.declared.Password.{Password}
 use Rattle.run.specs.declared.Step.{Step}
 use Rattle.run.specs.Run.{passwordOf, isPin, isLast}
-use Rattle.event.specs.declared.happening.Event.{Event}
-use Rattle.event.specs.declared.happening.Event.the-variants.{StepPassed, Opened, RunClosed, TrialLost}
+use Rattle.event.specs.declared.Event.{Event}
+use Rattle.event.specs.declared.Event.the-variants.{StepPassed, Opened, RunClosed, TrialLost}
 use Rattle.outcome.specs.Outcome.{passedEvent, trialOf, otherEvent, takenEvent}
 
 module _ (c : Choice) (p : Step) (l : Bool) (e : l ≡ isLast p) where

@@ -1,17 +1,17 @@
 -- What a run step and a certificate lead to. Assumes nothing: these are definitions.
 use Prim.Native.Nat.{ℕ, _-_}
 use mathlib.Core.Bool.{Bool, cond, not}
-use Rattle.rights.specs.Rights.{isTerminal}
+use Rattle.roles.specs.Roles.{isTerminal}
 use Rattle.rights.specs.declared.Rights.{Rights}
-use Rattle.rights.specs.declared.Role.{Role}
-use Rattle.rights.specs.declared.Role.the-variants.{Cvca, OfficialDv, OtherDv, Terminal}
+use Rattle.roles.specs.declared.Role.{Role}
+use Rattle.roles.specs.declared.Role.the-variants.{Cvca, OfficialDv, OtherDv, Terminal}
 use Rattle.run.specs.declared.Choice.{Choice}
 use Rattle.run.specs.declared.Step.{Step}
 use Rattle.run.specs.Run.{passwordOf, isPin, isLast}
-use Rattle.event.specs.declared.happening.Issuer.{Issuer}
-use Rattle.event.specs.declared.happening.Issuer.the-variants.{Newest, Previous, Dv}
-use Rattle.event.specs.declared.happening.Event.{Event}
-use Rattle.event.specs.declared.happening.Event.the-variants.{StepPassed, Opened, RunClosed, TrialLost, LinkTaken, DvTaken, TerminalTaken}
+use Rattle.event.specs.declared.Issuer.{Issuer}
+use Rattle.event.specs.declared.Issuer.the-variants.{Newest, Previous, Dv}
+use Rattle.event.specs.declared.Event.{Event}
+use Rattle.event.specs.declared.Event.the-variants.{StepPassed, Opened, RunClosed, TrialLost, LinkTaken, DvTaken, TerminalTaken}
 
 -- "Fourth: passed opens the session afresh"
 abbrev pub passedEvent : Choice → Step → Event

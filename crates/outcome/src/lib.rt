@@ -2,10 +2,10 @@
 ghost use mathlib.Core.Path.{_≡_};
 ghost use Rattle.outcome.specs.Outcome.{passedEvent, otherEvent, trialOf, issues, takenEvent};
 ghost use Prim.Native.Nat.{_-_};
-use event::happening::Event;
-use event::happening::Issuer;
+use event::Event;
+use event::Issuer;
 use rights::Rights;
-use rights::Role;
+use roles::Role;
 use run::Choice;
 use run::Step;
 

@@ -4,7 +4,7 @@ use mathlib.Core.Path.{_≡_}
 use mathlib.Core.List.{List}
 use lib.ListN.{length}
 use Rattle.laws.proofs.Pinned.{pinned}
-use Rattle.event.specs.declared.happening.Event.{Event}
+use Rattle.event.specs.declared.Event.{Event}
 use Rattle.trust.specs.declared.Points.{Points}
 use Rattle.reply.specs.Lay.{Written}
 use Rattle.answer.specs.Answer.{replyTo}

@@ -7,7 +7,7 @@ use Rattle.keys.specs.declared.Key.{Key}
 use Rattle.names.specs.declared.Name.{Name}
 use Rattle.points.specs.declared.Point.{Point}
 use Rattle.run.specs.declared.Choice.{Choice}
-use Rattle.event.specs.declared.happening.Event.{Event}
+use Rattle.event.specs.declared.Event.{Event}
 use Rattle.course.specs.declared.Plan.{Plan}
 use Rattle.fields.specs.declared.asked.Content.{Content}
 use Rattle.trust.specs.declared.Points.{Points}
@@ -15,7 +15,7 @@ use Rattle.standing.specs.declared.Opened.{Opened}
 use Rattle.standing.specs.declared.Chain.{Chain}
 use Rattle.session.specs.declared.Context.{Context}
 use Rattle.standing.specs.declared.Selected.{Selected}
-use Rattle.checks.specs.Commands.{choosePlan, generalPlan, announcePlan, readPlan, changePlan, unblockPlan, activePlan}
+use Rattle.checks.specs.Checks.{choosePlan, generalPlan, announcePlan, readPlan, changePlan, unblockPlan, activePlan}
 use Rattle.certify.specs.Certify.{selectPlan, verifyPlan}
 
 pub choose-pinned : (pin puk : ℕ) (active : Bool) (opened : Opened) (c : Choice) → Pinned Plan (choosePlan pin active puk opened c)

@@ -2,9 +2,9 @@
 use Rattle.laws.proofs.Pinned.{Pinned, pinned}
 use Rattle.status.specs.declared.Word.{Word}
 use Rattle.event.specs.Event.{refusalWord, lossWord, wordOf}
-use Rattle.event.specs.declared.happening.Refusal.{Refusal}
-use Rattle.event.specs.declared.happening.Loss.{Loss}
-use Rattle.event.specs.declared.happening.Event.{Event}
+use Rattle.event.specs.declared.Refusal.{Refusal}
+use Rattle.event.specs.declared.Loss.{Loss}
+use Rattle.event.specs.declared.Event.{Event}
 
 pub refusal-word-pinned : (r : Refusal) → Pinned Word (refusalWord r)
 refusal-word-pinned r = pinned _

@@ -4,6 +4,7 @@ pub mod Checks
 pub mod Command
 pub mod Event
 pub mod Fields
+pub mod Laid
 pub mod Objects
 pub mod Order
 pub mod Reply
@@ -15,4 +16,4 @@ pub mod Standing
 pub mod Strings
 pub mod Token
 pub mod Trust
-pub mod Values
+pub mod Points

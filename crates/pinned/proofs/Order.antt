@@ -3,11 +3,11 @@ use Prim.Native.Nat.{ℕ, _-_}
 use mathlib.Core.Bool.{Bool}
 use Rattle.laws.proofs.Pinned.{Pinned, pinned}
 use Rattle.rights.specs.declared.Rights.{Rights}
-use Rattle.rights.specs.declared.Role.{Role}
+use Rattle.roles.specs.declared.Role.{Role}
 use Rattle.run.specs.declared.Choice.{Choice}
 use Rattle.run.specs.declared.Step.{Step}
-use Rattle.event.specs.declared.happening.Issuer.{Issuer}
-use Rattle.event.specs.declared.happening.Event.{Event}
+use Rattle.event.specs.declared.Issuer.{Issuer}
+use Rattle.event.specs.declared.Event.{Event}
 use Rattle.course.specs.declared.Course.{Course}
 use Rattle.order.specs.Order.{chooseLadder, verifyLadder, grounded, unblockLadder}
 use Rattle.outcome.specs.Outcome.{passedEvent, otherEvent, issues, takenEvent}

@@ -3,9 +3,10 @@ use Prim.Native.Nat.{ℕ}
 use mathlib.Core.Bool.{Bool}
 use mathlib.Core.List.{List}
 use Rattle.laws.proofs.Pinned.{Pinned, pinned}
-use Rattle.rights.specs.Rights.{granted, rightsFit, roleOf, common, hasRight, readsGroup, isCvca, isOfficial, isTerminal, isDv}
+use Rattle.rights.specs.Rights.{granted, rightsFit, roleOf, common, hasRight, readsGroup}
+use Rattle.roles.specs.Roles.{isCvca, isOfficial, isTerminal, isDv}
 use Rattle.rights.specs.declared.Rights.{Rights}
-use Rattle.rights.specs.declared.Role.{Role}
+use Rattle.roles.specs.declared.Role.{Role}
 use Rattle.rights.specs.declared.Granted.{Granted}
 
 pub rights-of-pinned : (s : List ℕ) → Pinned Granted (granted s)

@@ -2,7 +2,7 @@
 use Rattle.laws.proofs.Pinned.{Pinned, pinned}
 use Rattle.keys.specs.declared.Key.{Key}
 use Rattle.rights.specs.declared.Granted.{Granted}
-use Rattle.event.specs.declared.happening.Issuer.{Issuer}
+use Rattle.event.specs.declared.Issuer.{Issuer}
 use Rattle.session.specs.Session.{noSession, bareSession, rechosen, atStage, announcedWith, chainedTo, selecting}
 use Rattle.run.specs.declared.Choice.{Choice}
 use Rattle.standing.specs.declared.Opened.{Opened}
@@ -14,7 +14,7 @@ use mathlib.Core.Bool.{Bool}
 use Rattle.rights.specs.declared.Rights.{Rights}
 use Rattle.command.specs.declared.kind.Kind.{Kind}
 use Rattle.moment.specs.Moment.{momentOf}
-use Rattle.bounds.specs.Fits.{contextFits}
+use Rattle.bounds.specs.Bounds.{contextFits}
 use Rattle.authorization.specs.Authorization.{authorization}
 use Rattle.session.specs.declared.Context.{Context}
 use Rattle.standing.specs.Standing.{noChain}

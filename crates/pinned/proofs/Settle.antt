@@ -6,7 +6,7 @@ use Rattle.laws.proofs.Pinned.{Pinned, pinned}
 use Rattle.course.specs.Course.{settledBy, awaitsBy, guardOf, courseJob}
 use Rattle.settle.specs.Settle.{settleOf}
 use Rattle.course.specs.Course.{jobNumber}
-use Rattle.event.specs.declared.happening.Event.{Event}
+use Rattle.event.specs.declared.Event.{Event}
 use Rattle.course.specs.declared.Note.{Note}
 use Rattle.course.specs.declared.Job.{Job}
 use Rattle.course.specs.declared.Course.{Course}

@@ -9,7 +9,7 @@ use Rattle.days.specs.declared.Day.{Day}
 use Rattle.keys.specs.declared.Key.{Key}
 use Rattle.points.specs.declared.Point.{Point}
 use Rattle.course.specs.Course.{courseJob}
-use Rattle.event.specs.declared.happening.Event.{Event}
+use Rattle.event.specs.declared.Event.{Event}
 use Rattle.course.specs.declared.Note.{Note}
 use Rattle.course.specs.declared.Job.{Job}
 use Rattle.course.specs.declared.Plan.{Plan}

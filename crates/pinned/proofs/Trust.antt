@@ -3,7 +3,7 @@ use mathlib.Core.Bool.{Bool}
 use Rattle.laws.proofs.Pinned.{Pinned, pinned}
 use Rattle.names.specs.declared.Name.{Name}
 use Rattle.points.specs.declared.Point.{Point}
-use Rattle.event.specs.declared.happening.Issuer.{Issuer}
+use Rattle.event.specs.declared.Issuer.{Issuer}
 use Rattle.trust.specs.Trust.{onePoint, twoPoints, pointsFit, knows, found, holderOf, linked}
 use Rattle.trust.specs.declared.Points.{Points}
 use Rattle.trust.specs.declared.Anchor.{Anchor}

@@ -5,8 +5,9 @@ use mathlib.Core.Path.{_≡_}
 use mathlib.Core.Bool.{Bool, true, false, not, _&&_}
 use Rattle.names.specs.Names.{noName, nameFits}
 use Rattle.days.specs.Days.{dayFits, before, later}
-use Rattle.rights.specs.Rights.{rightsFit, roleOf, isOfficial}
-use Rattle.rights.specs.declared.Role.{Role}
+use Rattle.rights.specs.Rights.{rightsFit, roleOf}
+use Rattle.roles.specs.Roles.{isOfficial}
+use Rattle.roles.specs.declared.Role.{Role}
 use Rattle.points.specs.Points.{noPoint, pointFits, todayAfter}
 use Rattle.names.specs.declared.Name.{Name}
 use Rattle.days.specs.declared.Day.{Day}

@@ -3,7 +3,8 @@ use Prim.Native.Nat.{ℕ}
 use mathlib.Core.Bool.{Bool, cond, not, _&&_}
 use Rattle.names.specs.Names.{noName, nameFits}
 use Rattle.days.specs.Days.{dayFits, before, later}
-use Rattle.rights.specs.Rights.{rightsFit, roleOf, isOfficial}
+use Rattle.rights.specs.Rights.{rightsFit, roleOf}
+use Rattle.roles.specs.Roles.{isOfficial}
 use Rattle.days.specs.declared.Day.{Day}
 use Rattle.points.specs.declared.Point.{Point}
 

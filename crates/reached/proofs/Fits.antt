@@ -11,23 +11,24 @@ use Rattle.names.specs.Names.{sameName}
 use Rattle.points.specs.Points.{noPoint, withKey}
 use Rattle.days.specs.Days.{dayFits}
 use Rattle.keys.specs.Keys.{noKey}
-use Rattle.rights.specs.Rights.{roleOf, isDv, readsGroup}
+use Rattle.rights.specs.Rights.{roleOf, readsGroup}
+use Rattle.roles.specs.Roles.{isDv}
 use Rattle.names.specs.declared.Name.{Name}
 use Rattle.keys.specs.declared.Key.{Key}
 use Rattle.points.specs.declared.Point.{Point}
-use Rattle.rights.specs.declared.Role.{Role}
-use Rattle.rights.specs.declared.Role.the-variants.{Cvca, OfficialDv, OtherDv, Terminal}
+use Rattle.roles.specs.declared.Role.{Role}
+use Rattle.roles.specs.declared.Role.the-variants.{Cvca, OfficialDv, OtherDv, Terminal}
 use Rattle.command.specs.declared.kind.Kind.{Kind}
 use Rattle.run.specs.declared.Choice.{Choice}
 use Rattle.run.specs.declared.Step.{Step}
 use Rattle.run.specs.Run.{passwordOf, isPin, isPuk, isLast}
-use Rattle.event.specs.declared.happening.Refusal.{Refusal}
-use Rattle.event.specs.declared.happening.Refusal.the-variants.{Lacking, Moment, Data, NotFound, Outside}
-use Rattle.event.specs.declared.happening.Loss.{Loss}
-use Rattle.event.specs.declared.happening.Issuer.{Issuer}
-use Rattle.event.specs.declared.happening.Issuer.the-variants.{Newest, Previous, Dv}
-use Rattle.event.specs.declared.happening.Event.{Event}
-use Rattle.event.specs.declared.happening.Event.the-variants.{Refused, Lost, Chosen, StepPassed, Opened as IsOpened, RunClosed, TrialLost, Selected as IsSelected, LinkTaken, DvTaken, TerminalTaken, Announced as IsAnnounced, Challenged as IsChallenged, Proven as IsProven, ProofLost, ChipKeyChosen as IsChosen, Authenticated as IsAuthenticated, ChipLost, ReadAllowed, PinChanged, UnblockedByPuk, UnblockedByRight, Activated, Deactivated, NotPassed}
+use Rattle.event.specs.declared.Refusal.{Refusal}
+use Rattle.event.specs.declared.Refusal.the-variants.{Lacking, Moment, Data, NotFound, Outside}
+use Rattle.event.specs.declared.Loss.{Loss}
+use Rattle.event.specs.declared.Issuer.{Issuer}
+use Rattle.event.specs.declared.Issuer.the-variants.{Newest, Previous, Dv}
+use Rattle.event.specs.declared.Event.{Event}
+use Rattle.event.specs.declared.Event.the-variants.{Refused, Lost, Chosen, StepPassed, Opened as IsOpened, RunClosed, TrialLost, Selected as IsSelected, LinkTaken, DvTaken, TerminalTaken, Announced as IsAnnounced, Challenged as IsChallenged, Proven as IsProven, ProofLost, ChipKeyChosen as IsChosen, Authenticated as IsAuthenticated, ChipLost, ReadAllowed, PinChanged, UnblockedByPuk, UnblockedByRight, Activated, Deactivated, NotPassed}
 use Rattle.course.specs.declared.Note.{Note}
 use Rattle.course.specs.declared.Guard.{Guard}
 use Rattle.course.specs.declared.Guard.the-variants.{Passes, Drops}
@@ -63,11 +64,11 @@ use Rattle.standing.specs.declared.Stage.the-variants.{Idle, Run, Announced, Ch
 use Rattle.standing.specs.Standing.{isOpen, openedByPin, openedByCan, openedByPuk, hasRights, hasDv, hasTerminal, isSelected, rank, unproven}
 use Rattle.moment.specs.Moment.{momentOf}
 use Rattle.authorization.specs.Authorization.{authorization}
-use Rattle.bounds.specs.Fits.{contextFits}
+use Rattle.bounds.specs.Bounds.{contextFits}
 use Rattle.token.specs.declared.state.Token.{Token}
 use Rattle.token.specs.State.{tries, uses, contextOf, chainOf}
 use Rattle.token.specs.Limits.{selectable, inLimits}
-use Rattle.checks.specs.Commands.{managesPin, isFor, choosePlan, runPlan, chipPlan, generalPlan, announcePlan, readPlan, changePlan, unblockPlan, activePlan}
+use Rattle.checks.specs.Checks.{managesPin, isFor, choosePlan, runPlan, chipPlan, generalPlan, announcePlan, readPlan, changePlan, unblockPlan, activePlan}
 use Rattle.certify.specs.Certify.{selectBy, selectPlan, repeats, late, underCourse, underPlan, verifyPlan}
 use Rattle.token.specs.Plan.{commandOf, timedOf, requestedOf, guarded, planOf}
 use Rattle.token.specs.Step.{happenedOf}

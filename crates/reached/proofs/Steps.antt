@@ -15,9 +15,9 @@ use Rattle.run.specs.declared.Choice.{Choice}
 use Rattle.run.specs.declared.Step.{Step}
 use Rattle.run.specs.declared.Step.the-variants.{Confirm}
 use Rattle.run.specs.Run.{passwordOf, isPin, isPuk, isLast}
-use Rattle.event.specs.declared.happening.Refusal.{Refusal}
-use Rattle.event.specs.declared.happening.Event.{Event}
-use Rattle.event.specs.declared.happening.Event.the-variants.{Refused, Lost, Chosen, StepPassed, Opened, RunClosed, TrialLost, Selected, LinkTaken, DvTaken, TerminalTaken, Announced, Challenged, Proven, ProofLost, ChipKeyChosen, Authenticated, ChipLost, ReadAllowed, PinChanged, UnblockedByPuk, UnblockedByRight, Activated, Deactivated, NotPassed}
+use Rattle.event.specs.declared.Refusal.{Refusal}
+use Rattle.event.specs.declared.Event.{Event}
+use Rattle.event.specs.declared.Event.the-variants.{Refused, Lost, Chosen, StepPassed, Opened, RunClosed, TrialLost, Selected, LinkTaken, DvTaken, TerminalTaken, Announced, Challenged, Proven, ProofLost, ChipKeyChosen, Authenticated, ChipLost, ReadAllowed, PinChanged, UnblockedByPuk, UnblockedByRight, Activated, Deactivated, NotPassed}
 use Rattle.course.specs.declared.Note.{Note}
 use Rattle.course.specs.declared.Guard.{Guard}
 use Rattle.course.specs.declared.Guard.the-variants.{Passes, Drops}
@@ -58,7 +58,7 @@ use Rattle.reply.specs.Reply.{room}
 use Rattle.token.specs.declared.state.Token.{Token}
 use Rattle.token.specs.State.{tries, contextOf, chainOf}
 use Rattle.token.specs.Limits.{inLimits}
-use Rattle.checks.specs.Commands.{managesPin, isFor, choosePlan, runPlan, chipPlan, generalPlan, announcePlan, readPlan, changePlan, unblockPlan, activePlan}
+use Rattle.checks.specs.Checks.{managesPin, isFor, choosePlan, runPlan, chipPlan, generalPlan, announcePlan, readPlan, changePlan, unblockPlan, activePlan}
 use Rattle.certify.specs.Certify.{selectBy, selectPlan, repeats, late, underCourse, underPlan, verifyPlan}
 use Rattle.token.specs.Plan.{commandOf, timedOf, requestedOf, guarded, planOf}
 use Rattle.token.specs.After.{afterOf}

@@ -9,7 +9,8 @@ use lib.Dec.{eqb, leb, ltb}
 use Rattle.laws.proofs.Bools.{true-false, and-l, and-r, and-5, or-l, or-then, both, of-both}
 use Rattle.names.specs.Names.{sameName, nameFits}
 use Rattle.days.specs.Days.{dayFits, before, later}
-use Rattle.rights.specs.Rights.{rightsFit, roleOf, isCvca, isDv, isOfficial}
+use Rattle.rights.specs.Rights.{rightsFit, roleOf}
+use Rattle.roles.specs.Roles.{isCvca, isDv, isOfficial}
 use Rattle.points.specs.Points.{noPoint, pointFits, withKey}
 use Rattle.keys.specs.Keys.{noKey, keyFits, keyStands}
 use Rattle.names.proofs.Kept.{same-turned}
@@ -17,7 +18,7 @@ use Rattle.days.specs.declared.Day.{Day}
 use Rattle.keys.specs.declared.Key.{Key}
 use Rattle.points.specs.declared.Point.{Point}
 use Rattle.rights.specs.declared.Rights.{Rights}
-use Rattle.rights.specs.declared.Role.the-variants.{Cvca, Terminal}
+use Rattle.roles.specs.declared.Role.the-variants.{Cvca, Terminal}
 use Rattle.rights.specs.declared.Granted.{Granted}
 use Rattle.rights.specs.declared.Granted.the-variants.{These, NoRights}
 use Rattle.run.specs.declared.Choice.{Choice}
@@ -25,8 +26,8 @@ use Rattle.run.specs.declared.Choice.the-variants.{Mrz, Can, CanFor, Pin, PinFo
 use Rattle.run.specs.declared.Step.{Step}
 use Rattle.run.specs.declared.Step.the-variants.{Nonce}
 use Rattle.run.specs.Run.{passwordOf, rightsNamed, isPin, isCan, nextStep}
-use Rattle.event.specs.declared.happening.Issuer.{Issuer}
-use Rattle.event.specs.declared.happening.Event.{Event}
+use Rattle.event.specs.declared.Issuer.{Issuer}
+use Rattle.event.specs.declared.Event.{Event}
 use Rattle.course.specs.declared.Note.{Note}
 use Rattle.settle.specs.declared.Answered.{Answered}
 use Rattle.trust.specs.Trust.{anchorFits, pointsFit, knows, linked}
@@ -49,7 +50,7 @@ use Rattle.session.specs.declared.Context.{Context}
 use Rattle.session.specs.declared.Session.{Session}
 use Rattle.standing.specs.Standing.{openedByPin, openedByCan, hasRights, reachesDv, reachesTerminal, hasDv, hasTerminal, noChain, rank, told, unproven}
 use Rattle.session.specs.Session.{bareSession, atStage, announcedWith, chainedTo}
-use Rattle.bounds.specs.Fits.{grantedFits, rootFits, dvFits, terminalFits, reachFits, chainFits, runFits, stageFits, groundFits, contextFits}
+use Rattle.bounds.specs.Bounds.{grantedFits, rootFits, dvFits, terminalFits, reachFits, chainFits, runFits, stageFits, groundFits, contextFits}
 use Rattle.token.specs.declared.state.Token.{Token}
 use Rattle.status.specs.declared.Intake.the-variants.{Accepted, Unfit}
 use Rattle.token.specs.declared.state.Personalised.{Personalised}

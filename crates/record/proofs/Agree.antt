@@ -9,7 +9,8 @@ use borrow.Author.Tests.{not-true}
 use lib.Dec.{eqb, leb}
 use Rattle.laws.proofs.Bools.{true-false, and-r, or-then}
 use Rattle.names.specs.Names.{sameName}
-use Rattle.rights.specs.Rights.{roleOf, isDv}
+use Rattle.rights.specs.Rights.{roleOf}
+use Rattle.roles.specs.Roles.{isDv}
 use Rattle.points.specs.Points.{noPoint, withKey}
 use Rattle.keys.specs.Keys.{noKey}
 use Rattle.names.proofs.Kept.{same-for}
@@ -18,8 +19,8 @@ use Rattle.keys.specs.declared.Key.{Key}
 use Rattle.days.specs.declared.Day.{Day}
 use Rattle.points.specs.declared.Point.{Point}
 use Rattle.rights.specs.declared.Rights.{Rights}
-use Rattle.rights.specs.declared.Role.{Role}
-use Rattle.rights.specs.declared.Role.the-variants.{Cvca, OfficialDv, OtherDv, Terminal}
+use Rattle.roles.specs.declared.Role.{Role}
+use Rattle.roles.specs.declared.Role.the-variants.{Cvca, OfficialDv, OtherDv, Terminal}
 use Rattle.rights.specs.declared.Granted.{Granted}
 use Rattle.rights.specs.declared.Granted.the-variants.{NoRights}
 use Rattle.run.specs.declared.Password.{Password}
@@ -27,7 +28,7 @@ use Rattle.run.specs.declared.Choice.{Choice}
 use Rattle.run.specs.declared.Step.{Step}
 use Rattle.run.specs.declared.Step.the-variants.{Nonce, Map, Agree, Confirm}
 use Rattle.run.specs.Run.{passwordOf, rightsNamed, isLast, nextStep}
-use Rattle.event.specs.declared.happening.Event.{Event}
+use Rattle.event.specs.declared.Event.{Event}
 use Rattle.trust.specs.Trust.{anchorFits, pointsFit, linked}
 use Rattle.trust.specs.declared.Points.{Points}
 use Rattle.fields.specs.declared.asked.Asked.{Asked}

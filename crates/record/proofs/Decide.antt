@@ -24,10 +24,10 @@ use Rattle.command.specs.Kind.{kindOf}
 use Rattle.command.specs.Shape.{shapeOf, headedOf}
 use Rattle.command.specs.declared.kind.Asked.the-variants.{For}
 use Rattle.run.specs.Run.{isCan}
-use Rattle.event.specs.declared.happening.Event.{Event}
-use Rattle.event.specs.declared.happening.Event.the-variants.{ReadAllowed, Refused, Lost}
-use Rattle.event.specs.declared.happening.Refusal.the-variants.{Moment}
-use Rattle.event.specs.declared.happening.Loss.the-variants.{Broken}
+use Rattle.event.specs.declared.Event.{Event}
+use Rattle.event.specs.declared.Event.the-variants.{ReadAllowed, Refused, Lost}
+use Rattle.event.specs.declared.Refusal.the-variants.{Moment}
+use Rattle.event.specs.declared.Loss.the-variants.{Broken}
 use Rattle.course.specs.declared.Guard.the-variants.{Passes, Drops}
 use Rattle.event.specs.Event.{wordOf}
 use Rattle.course.specs.declared.Note.the-variants.{Protected}
@@ -56,7 +56,7 @@ use Rattle.authorization.proofs.Authorizes.{shared-right, effective-right}
 use Rattle.token.specs.State.{contextOf}
 use Rattle.token.specs.declared.state.Token.{Token}
 use Rattle.token.specs.Limits.{inLimits}
-use Rattle.checks.specs.Commands.{readPlan}
+use Rattle.checks.specs.Checks.{readPlan}
 use Rattle.token.specs.Plan.{commandOf, timedOf, requestedOf, guarded, planOf}
 use Rattle.token.specs.Step.{Stepped, happenedOf, nextOf, endedBy, stepOf}
 use Rattle.reached.proofs.Fits.{Lim, in-limits, fits}

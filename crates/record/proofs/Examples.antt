@@ -23,12 +23,12 @@ use Rattle.reply.specs.Bytes.{lengthBytes, object as object·Bytes·reply}
 use Rattle.reply.specs.Lay.{over}
 use Rattle.reply.specs.Reply.{dataOf as dataOf·Reply·reply, replyOf}
 use Rattle.authorization.specs.Authorization.{sharedBy, authorization}
-use Rattle.bounds.specs.Fits.{rootFits, dvFits, terminalFits, chainFits, groundFits, contextFits}
+use Rattle.bounds.specs.Bounds.{rootFits, dvFits, terminalFits, chainFits, groundFits, contextFits}
 use Rattle.moment.specs.Moment.{momentOf}
 use Rattle.standing.specs.Standing.{noChain}
 use Rattle.token.specs.After.{choiceTaken, staged, stepPassed, opened, runClosed, trialLost, issuerSelected, linkTaken, dvTaken, terminalTaken, announced, unblocked, unblockedByPuk, activated, afterOf}
 use Rattle.certify.specs.Certify.{selectPlan, repeats, late, underCourse, underPlan, verifyPlan}
-use Rattle.checks.specs.Commands.{choosePlan, runPlan, chipPlan, generalPlan, announcePlan, readPlan, changePlan, unblockPlan, activePlan}
+use Rattle.checks.specs.Checks.{choosePlan, runPlan, chipPlan, generalPlan, announcePlan, readPlan, changePlan, unblockPlan, activePlan}
 use Rattle.token.specs.Limits.{inLimits}
 use Rattle.token.specs.Plan.{commandOf, timedOf, requestedOf, guarded, planOf}
 use Rattle.token.specs.State.{resetOf, startOf, noToken, madeOf}

@@ -12,8 +12,8 @@ use Rattle.points.specs.declared.Point.{Point}
 use Rattle.rights.specs.declared.Rights.{Rights}
 use Rattle.rights.specs.declared.Granted.{Granted}
 use Rattle.rights.specs.declared.Granted.the-variants.{These, NoRights}
-use Rattle.rights.specs.declared.Role.{Role}
-use Rattle.rights.specs.declared.Role.the-variants.{Cvca, OfficialDv, OtherDv, Terminal}
+use Rattle.roles.specs.declared.Role.{Role}
+use Rattle.roles.specs.declared.Role.the-variants.{Cvca, OfficialDv, OtherDv, Terminal}
 use Rattle.status.specs.declared.Word.{Word}
 use Rattle.status.specs.declared.Word.the-variants.{Done, Tries, NotPassed, Length, Lacking, Blocked, Expired, Moment, Unprotected, Broken, Data, Parameters, NotFound, Instruction, Class, Outside}
 use Rattle.run.specs.declared.Password.{Password}

@@ -2,14 +2,13 @@
 use borrow.Author.Needs.{needs}
 use Prim.Native.Nat.{ℕ, _-_, _%_, _^_}
 use mathlib.Core.Path.{_≡_, sym, ap, _∙_}
-use mathlib.Core.Bool.{Bool, true, false, not, _&&_}
+use mathlib.Core.Bool.{Bool, true, false}
 use mathlib.Core.List.{List}
 use borrow.Author.Tests.{eq-eqb, ne-eqb}
 use lib.ListN.{length, take, drop}
 use Rattle.laws.proofs.Lists.{from}
 use Rattle.strings.specs.Bytes.{eqbs, number}
-use Rattle.rights.specs.Rights.{width, template, isRights, granted, isCvca, isTerminal, isDv}
-use Rattle.rights.specs.declared.Role.{Role}
+use Rattle.rights.specs.Rights.{width, template, isRights, granted}
 use Rattle.rights.specs.declared.Granted.the-variants.{These, NoRights}
 
 module _ (s : List ℕ) where
@@ -26,7 +25,4 @@ module _ (s : List ℕ) where
     unfolding granted isRights
     rights-are e n f = rw (eq-eqb (length s) 18 h, sym is ∙ e, f ∙ ap (number 256 0) (from s 13))
 
-pub dv-is : (r : Role) (a b : Bool) → a ≡ isCvca r → b ≡ isTerminal r → not a && not b ≡ isDv r
-dv-is r a b e f = rw (e, f)
-
-pub ruleset contents = (rights-long, rights-not, rights-are, dv-is, needs)
+pub ruleset contents = (rights-long, rights-not, rights-are, needs)

@@ -3,13 +3,13 @@
 -- Assumes nothing: these are definitions.
 use Prim.Native.Nat.{ℕ, zero, suc, _+_, _-_, _*_, _/_, _%_, _^_, min}
 use mathlib.Core.List.{List, [], _∷_}
-use mathlib.Core.Bool.{Bool, true, false, cond, not, _&&_}
+use mathlib.Core.Bool.{Bool, cond, _&&_}
 use lib.ListN.{length, take, drop}
 use lib.Dec.{eqb, ltb}
 use Rattle.strings.specs.Bytes.{eqbs, among, number}
 use Rattle.rights.specs.declared.Rights.{Rights}
-use Rattle.rights.specs.declared.Role.{Role}
-use Rattle.rights.specs.declared.Role.the-variants.{Cvca, OfficialDv, OtherDv, Terminal}
+use Rattle.roles.specs.declared.Role.{Role}
+use Rattle.roles.specs.declared.Role.the-variants.{Cvca, OfficialDv, OtherDv, Terminal}
 use Rattle.rights.specs.declared.Granted.{Granted}
 use Rattle.rights.specs.declared.Granted.the-variants.{These, NoRights}
 
@@ -29,28 +29,6 @@ roleAt top = cond (eqb top 3) Cvca (cond (eqb top 2) OfficialDv (cond (eqb top 1
 
 unfoldable pub roleOf : Rights → Role
 roleOf r = roleAt (r .0 / 2 ^ low % 4)
-
-abbrev pub isCvca : Role → Bool
-isCvca Cvca = true
-isCvca OfficialDv = false
-isCvca OtherDv = false
-isCvca Terminal = false
-
-abbrev pub isOfficial : Role → Bool
-isOfficial Cvca = false
-isOfficial OfficialDv = true
-isOfficial OtherDv = false
-isOfficial Terminal = false
-
-abbrev pub isTerminal : Role → Bool
-isTerminal Cvca = false
-isTerminal OfficialDv = false
-isTerminal OtherDv = false
-isTerminal Terminal = true
-
--- either DV
-abbrev pub isDv : Role → Bool
-isDv r = not (isCvca r) && not (isTerminal r)
 
 -- ---- from bytes
 

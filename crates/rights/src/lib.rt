@@ -3,63 +3,15 @@ ghost use mathlib.Core.Path.{_≡_};
 ghost use Prim.Native.Nat.{_+_, _*_, _≤_};
 ghost use lib.ListN.{length};
 ghost use Rattle.strings.specs.Bytes.{number};
-ghost use Rattle.rights.specs.Rights.{rightsFit, roleOf, granted, common, hasRight, groupMask, readsGroup, isCvca, isOfficial, isTerminal, isDv};
+ghost use Rattle.rights.specs.Rights.{rightsFit, roleOf, granted, common, hasRight, groupMask, readsGroup};
+use roles::Role;
 use strings::same;
 
 pub struct Rights(pub u64);
 
-pub enum Role {
-    Cvca,
-    OfficialDv,
-    OtherDv,
-    Terminal,
-}
-
 pub enum Granted {
     These(Rights),
     NoRights,
-}
-
-impl Role {
-    pub fn is_cvca(self) -> bool
-        ensures { λ r. ⌜ r ≡ isCvca self ⌝ }
-    {
-        match self {
-            Role::Cvca => true,
-            Role::OfficialDv => false,
-            Role::OtherDv => false,
-            Role::Terminal => false,
-        }
-    }
-
-    pub fn is_official(self) -> bool
-        ensures { λ r. ⌜ r ≡ isOfficial self ⌝ }
-    {
-        match self {
-            Role::Cvca => false,
-            Role::OfficialDv => true,
-            Role::OtherDv => false,
-            Role::Terminal => false,
-        }
-    }
-
-    pub fn is_terminal(self) -> bool
-        ensures { λ r. ⌜ r ≡ isTerminal self ⌝ }
-    {
-        match self {
-            Role::Cvca => false,
-            Role::OfficialDv => false,
-            Role::OtherDv => false,
-            Role::Terminal => true,
-        }
-    }
-
-    // A DV is neither.
-    pub fn is_dv(self) -> bool
-        ensures { λ r. ⌜ r ≡ isDv self ⌝ }
-    {
-        !self.is_cvca() & !self.is_terminal()
-    }
 }
 
 // 06 and the roles of terminals, then the header of 53 with five bytes.

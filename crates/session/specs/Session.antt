@@ -4,7 +4,7 @@ use Rattle.keys.specs.Keys.{noKey}
 use Rattle.keys.specs.declared.Key.{Key}
 use Rattle.rights.specs.declared.Granted.{Granted}
 use Rattle.rights.specs.declared.Granted.the-variants.{NoRights}
-use Rattle.event.specs.declared.happening.Issuer.{Issuer}
+use Rattle.event.specs.declared.Issuer.{Issuer}
 use Rattle.run.specs.declared.Choice.{Choice}
 use Rattle.run.specs.declared.Step.the-variants.{Nonce}
 use Rattle.standing.specs.declared.Opened.{Opened}

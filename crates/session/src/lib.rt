@@ -3,7 +3,7 @@ ghost use mathlib.Core.Path.{_≡_};
 ghost use Rattle.session.specs.Session.{noSession, bareSession, rechosen, atStage, announcedWith, chainedTo, selecting};
 ghost use Rattle.standing.specs.Standing.{noChain};
 ghost use Rattle.standing.specs.declared.Stage.the-variants.{Announced};
-use event::happening::Issuer;
+use event::Issuer;
 use keys::Key;
 use rights::Granted;
 use run::Choice;

@@ -9,7 +9,7 @@ use Rattle.keys.specs.Keys.{keyIs, places}
 use Rattle.points.specs.Points.{withKey}
 use Rattle.keys.specs.declared.Key.{Key}
 use Rattle.points.specs.declared.Point.{Point}
-use Rattle.event.specs.declared.happening.Event.{Event}
+use Rattle.event.specs.declared.Event.{Event}
 use Rattle.course.specs.declared.Job.{Job}
 use Rattle.course.specs.declared.Job.the-variants.{Nothing, Step as StepJob, Certificate, Challenge, Proof, ChipKey, PinChange}
 use Rattle.course.specs.Course.{jobNumber}

@@ -5,7 +5,7 @@ ghost use Rattle.settle.specs.Settle.{jobFits, matches, takenIn, endsBy,
 use course::Course;
 use course::Job;
 use course::Plan;
-use event::happening::Event;
+use event::Event;
 use keys::Key;
 use points::Point;
 use strings::STRING;

@@ -1,7 +1,7 @@
 // What stands in a session: who opened it, its chain, the selection, the stage; and the questions about each.
 ghost use mathlib.Core.Path.{_≡_};
 ghost use Rattle.standing.specs.Standing.{isOpen, openedByPin, openedByCan, openedByPuk, hasRights, hasDv, hasTerminal, isSelected, noChain, rank};
-use event::happening::Issuer;
+use event::Issuer;
 use points::Point;
 use rights::Granted;
 use rights::Rights;

@@ -1,5 +1,1 @@
 pub mod Laying
-pub mod Digits
-pub mod Numbers
-pub mod Pairs
-pub mod Back

@@ -1,4 +1,2 @@
 pub mod Room
 pub mod Find
-pub mod Digits
-pub mod Hex

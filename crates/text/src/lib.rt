@@ -1,6 +1,6 @@
-// Text in lent buffers: bytes as they are, in hex, and numbers by their digits, both ways. What has no room is not written.
+// Text in lent buffers. What has no room is not written.
 ghost use mathlib.Core.Path.{_≡_};
-ghost use Prim.Native.Nat.{_+_, _≤_};
+ghost use Prim.Native.Nat.{_+_, _≤_, min};
 ghost use lib.Dec.{leb};
 ghost use lib.ListN.{length, take};
 ghost use Rattle.reply.specs.Lay.{Put};
@@ -8,11 +8,8 @@ ghost use Rattle.text.specs.Room.{fitting};
 ghost use Rattle.text.specs.Find.{placeOf};
 use strings::clip;
 
-pub mod hex;
-pub mod number;
-
 // Whether so many bytes have room at a place of a buffer.
-pub(crate) fn has_room(size: usize, at: usize, n: usize) -> bool
+pub fn has_room(size: usize, at: usize, n: usize) -> bool
     ensures { λ r. ⌜ r ≡ leb (at + n) size ⌝ }
 {
     if size < at {
@@ -59,6 +56,16 @@ pub fn find(s: &[u8], from: usize, b: u8) -> usize
         i += 1;
     }
     s.len()
+}
+
+// The place after a place of a string of n bytes, or the end.
+pub fn past(at: usize, n: usize) -> usize
+    ensures { λ r. ⌜ r ≡ min (at + 1) n ⌝ }
+{
+    if at < n {
+        return at + 1;
+    }
+    n
 }
 
 // The first n bytes, or all.

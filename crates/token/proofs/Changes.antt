@@ -14,8 +14,8 @@ use Rattle.run.specs.declared.Choice.{Choice}
 use Rattle.run.specs.declared.Password.{Password}
 use Rattle.run.specs.declared.Step.{Step}
 use Rattle.run.specs.Run.{passwordOf, rightsNamed, nextStep}
-use Rattle.event.specs.declared.happening.Issuer.{Issuer}
-use Rattle.event.specs.declared.happening.Event.{Event}
+use Rattle.event.specs.declared.Issuer.{Issuer}
+use Rattle.event.specs.declared.Event.{Event}
 use Rattle.trust.specs.Trust.{linked}
 use Rattle.trust.specs.declared.Points.{Points}
 use Rattle.standing.specs.declared.Opened.the-variants.{By}

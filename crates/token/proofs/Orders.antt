@@ -5,9 +5,9 @@ use mathlib.Core.Bool.{Bool, true, false, not}
 use mathlib.Core.Path.{_≡_, sym, ap, _∙_}
 use mathlib.Core.List.{List}
 use Rattle.command.specs.declared.kind.Kind.{Kind}
-use Rattle.event.specs.declared.happening.Refusal.the-variants.{Moment, Outside}
-use Rattle.event.specs.declared.happening.Loss.{Loss}
-use Rattle.event.specs.declared.happening.Event.the-variants.{Refused, Lost}
+use Rattle.event.specs.declared.Refusal.the-variants.{Moment, Outside}
+use Rattle.event.specs.declared.Loss.{Loss}
+use Rattle.event.specs.declared.Event.the-variants.{Refused, Lost}
 use Rattle.course.specs.declared.Note.{Note}
 use Rattle.course.specs.declared.Guard.{Guard}
 use Rattle.course.specs.declared.Guard.the-variants.{Passes, Drops}

@@ -12,7 +12,7 @@ use Rattle.trust.specs.declared.Points.{Points}
 use Rattle.session.specs.declared.Session.{Session}
 use Rattle.standing.specs.Standing.{hasDv}
 use Rattle.session.specs.Session.{noSession}
-use Rattle.bounds.specs.Fits.{contextFits}
+use Rattle.bounds.specs.Bounds.{contextFits}
 use Rattle.token.specs.declared.state.Token.{Token}
 use Rattle.status.specs.declared.Intake.the-variants.{Accepted, Unfit}
 use Rattle.token.specs.declared.state.Personalised.{Personalised}

@@ -3,11 +3,11 @@ use mathlib.Core.Bool.{Bool, true, not, _&&_}
 use lib.Dec.{leb}
 use Rattle.days.specs.Days.{dayFits}
 use Rattle.trust.specs.Trust.{pointsFit, knows}
-use Rattle.event.specs.declared.happening.Issuer.the-variants.{Newest, Previous, Dv}
+use Rattle.event.specs.declared.Issuer.the-variants.{Newest, Previous, Dv}
 use Rattle.standing.specs.declared.Selected.{Selected}
 use Rattle.standing.specs.declared.Selected.the-variants.{NoIssuer, Of}
 use Rattle.standing.specs.Standing.{hasDv}
-use Rattle.bounds.specs.Fits.{contextFits}
+use Rattle.bounds.specs.Bounds.{contextFits}
 use Rattle.token.specs.declared.state.Token.{Token}
 use Rattle.token.specs.State.{tries, uses}
 

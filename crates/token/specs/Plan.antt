@@ -5,8 +5,8 @@ use mathlib.Core.List.{List}
 use Prim.Native.Nat.{ℕ}
 use lib.Dec.{eqb}
 use Rattle.command.specs.declared.kind.Kind.{Kind}
-use Rattle.event.specs.declared.happening.Refusal.the-variants.{Moment, Data, Outside}
-use Rattle.event.specs.declared.happening.Event.the-variants.{Refused, Lost, Challenged, Proven, ProofLost, ChipKeyChosen, Activated, Deactivated, NotPassed}
+use Rattle.event.specs.declared.Refusal.the-variants.{Moment, Data, Outside}
+use Rattle.event.specs.declared.Event.the-variants.{Refused, Lost, Challenged, Proven, ProofLost, ChipKeyChosen, Activated, Deactivated, NotPassed}
 use Rattle.course.specs.declared.Note.{Note}
 use Rattle.course.specs.declared.Guard.{Guard}
 use Rattle.course.specs.declared.Guard.the-variants.{Passes, Drops}
@@ -21,7 +21,7 @@ use Rattle.fields.specs.declared.asked.Asked.{Asked}
 use Rattle.fields.specs.Asked.{askedOf}
 use Rattle.standing.specs.Standing.{isOpen}
 use Rattle.moment.specs.Moment.{momentOf}
-use Rattle.checks.specs.Commands.{choosePlan, generalPlan, announcePlan, readPlan, changePlan, unblockPlan, activePlan}
+use Rattle.checks.specs.Checks.{choosePlan, generalPlan, announcePlan, readPlan, changePlan, unblockPlan, activePlan}
 use Rattle.certify.specs.Certify.{selectPlan, verifyPlan}
 use Rattle.token.specs.declared.state.Token.{Token}
 use Rattle.token.specs.State.{tries, contextOf, chainOf}

@@ -3,7 +3,7 @@ ghost use mathlib.Core.Path.{_≡_};
 ghost use Rattle.token.specs.Limits.{selectable, inLimits};
 use super::state::Token;
 use bounds::context_fits;
-use event::happening::Issuer;
+use event::Issuer;
 use standing::Selected;
 
 // Whether a selection is one of the trust points held or the chain's DV.

@@ -3,12 +3,13 @@ use borrow.Author.Needs.{needs}
 use mathlib.Core.Bool.{Bool, true, false, not, _&&_, _||_}
 use mathlib.Core.Path.{_≡_}
 use Rattle.names.specs.Names.{sameName}
-use Rattle.rights.specs.Rights.{roleOf, isCvca}
+use Rattle.rights.specs.Rights.{roleOf}
+use Rattle.roles.specs.Roles.{isCvca}
 use Rattle.points.specs.Points.{noPoint, pointFits}
 use Rattle.names.specs.declared.Name.{Name}
 use Rattle.points.specs.declared.Point.{Point}
-use Rattle.rights.specs.declared.Role.{Role}
-use Rattle.event.specs.declared.happening.Issuer.the-variants.{Newest, Previous}
+use Rattle.roles.specs.declared.Role.{Role}
+use Rattle.event.specs.declared.Issuer.the-variants.{Newest, Previous}
 use Rattle.trust.specs.Trust.{anchorFits, onePoint, pointsFit, knows, found}
 use Rattle.trust.specs.declared.Points.{Points}
 use Rattle.trust.specs.declared.Anchor.the-variants.{Is, Unknown}

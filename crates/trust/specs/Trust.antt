@@ -1,12 +1,13 @@
 -- "newest trust point and perhaps a previous one". Assumes nothing: these are definitions.
 use mathlib.Core.Bool.{Bool, true, false, cond, not, _&&_, _||_}
 use Rattle.names.specs.Names.{sameName}
-use Rattle.rights.specs.Rights.{roleOf, isCvca}
+use Rattle.rights.specs.Rights.{roleOf}
+use Rattle.roles.specs.Roles.{isCvca}
 use Rattle.points.specs.Points.{noPoint, pointFits}
 use Rattle.names.specs.declared.Name.{Name}
 use Rattle.points.specs.declared.Point.{Point}
-use Rattle.event.specs.declared.happening.Issuer.{Issuer}
-use Rattle.event.specs.declared.happening.Issuer.the-variants.{Newest, Previous, Dv}
+use Rattle.event.specs.declared.Issuer.{Issuer}
+use Rattle.event.specs.declared.Issuer.the-variants.{Newest, Previous, Dv}
 use Rattle.trust.specs.declared.Points.{Points}
 use Rattle.trust.specs.declared.Anchor.{Anchor}
 use Rattle.trust.specs.declared.Anchor.the-variants.{Is, Unknown}

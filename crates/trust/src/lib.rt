@@ -1,7 +1,7 @@
 // The trust points that a token holds: the newest, and perhaps a previous one.
 ghost use mathlib.Core.Path.{_≡_};
 ghost use Rattle.trust.specs.Trust.{anchorFits, onePoint, twoPoints, pointsFit, knows, found, holderOf, linked};
-use event::happening::Issuer;
+use event::Issuer;
 use names::Name;
 use points::Point;
 

@@ -5,7 +5,7 @@ use super::show::body;
 use super::show::heading;
 use super::show::number;
 use super::show::write;
-use certificate::Answer;
+use status::Intake;
 use strings::clip;
 
 pub fn section() {
@@ -23,8 +23,8 @@ fn refused(s: &[u8]) -> usize
     let r = certificate::read_body(s);
     let answer = r.answer;
     match answer {
-        Answer::Read => 0,
-        Answer::Unread => 1,
+        Intake::Accepted => 0,
+        Intake::Unfit => 1,
     }
 }
 

@@ -1,10 +1,13 @@
 // Writes what was read as text.
-use certificate::Answer;
 use certificate::Body;
 use days::Day;
+use digits::number::Radix;
+use digits::number::put_digits;
 use names::Name;
 use rights::Rights;
+use status::Intake;
 use status::Word;
+use text::front;
 
 pub fn write(s: &[u8]) {
     io::write_all(1, s);
@@ -20,68 +23,38 @@ pub fn number(n: usize) {
     io::print_decimal(1, n as u64);
 }
 
-fn digit(n: u32) -> u8 {
-    (48 + n % 10) as u8
+// The last so many digits, ten at most.
+fn digits(n: u64, radix: Radix, width: usize) {
+    let mut line = [0u8; 10];
+    let end = put_digits(&mut line, 0, n, radix, width);
+    write(front(&line, end));
 }
 
 // YYYY-MM-DD.
 fn day(d: Day) {
-    let n = d.0;
-    let line = [
-        digit(n / 10000000),
-        digit(n / 1000000),
-        digit(n / 100000),
-        digit(n / 10000),
-        b'-',
-        digit(n / 1000),
-        digit(n / 100),
-        b'-',
-        digit(n / 10),
-        digit(n),
-        b' ',
-    ];
-    write(&line);
+    let n = d.0 as u64;
+    digits(n / 10000, Radix::Ten, 4);
+    write(b"-");
+    digits(n / 100, Radix::Ten, 2);
+    write(b"-");
+    digits(n, Radix::Ten, 2);
+    write(b" ");
 }
 
-fn hex(n: u64) -> u8 {
-    let d = n % 16;
-    if d < 10 {
-        (48 + d) as u8
-    } else {
-        (55 + d) as u8
-    }
-}
-
-// Ten digits, highest first.
+// Ten digits.
 fn rights(r: Rights) {
-    let n = r.0;
-    let line = [
-        hex(n / 0x10_0000_0000),
-        hex(n / 0x1_0000_0000),
-        hex(n / 0x1000_0000),
-        hex(n / 0x100_0000),
-        hex(n / 0x10_0000),
-        hex(n / 0x1_0000),
-        hex(n / 0x1000),
-        hex(n / 0x100),
-        hex(n / 0x10),
-        hex(n),
-        b' ',
-    ];
-    write(&line);
+    digits(r.0, Radix::Sixteen, 10);
+    write(b" ");
 }
 
 // Four digits.
 fn word(w: Word) {
-    let n = w.number() as u64;
-    let line = [hex(n / 0x1000), hex(n / 0x100), hex(n / 0x10), hex(n)];
-    write(&line);
+    digits(w.number() as u64, Radix::Sixteen, 4);
 }
 
 fn name(n: Name) {
-    let b = n.bytes;
-    let m = strings::clip(n.len, Name::MOST);
-    write(&b[..m]);
+    let bytes = n.bytes;
+    write(front(&bytes, n.len));
     write(b" ");
 }
 
@@ -108,11 +81,11 @@ pub fn body(called: &[u8], s: &[u8]) {
     let r = certificate::read_body(s);
     let answer = r.answer;
     match answer {
-        Answer::Read => {
+        Intake::Accepted => {
             let b = r.body;
             fields(b);
         }
-        Answer::Unread => {
+        Intake::Unfit => {
             word(Word::Data);
         }
     }

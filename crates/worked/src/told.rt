@@ -1,13 +1,12 @@
 // A script in the desk's language, told: what a line shows, the line, its answer.
-ghost use mathlib.Core.Path.{_≡_};
-ghost use Prim.Native.Nat.{_+_, _<_};
 use super::show::number;
 use super::show::write;
-use lines::ANSWER;
-use lines::Desk;
+use laid::Desk;
 use lines::answer;
 use text::find;
 use text::front;
+use text::past;
+use wording::ANSWER;
 
 // As much of a line as is shown.
 const SHOWN: usize = 96;
@@ -56,14 +55,6 @@ fn line(desk: Desk, s: &[u8]) -> Desk {
     next
 }
 
-// The next place of a string of n bytes.
-fn past(at: usize, n: usize) -> usize
-    requires { ⌜ at < n ⌝ }
-    ensures { λ r. ⌜ r ≡ at + 1 ⌝ }
-{
-    at + 1
-}
-
 // The desk once every line was told.
 pub fn told(desk: Desk, script: &[u8]) -> Desk {
     let mut desk = desk;
@@ -72,9 +63,6 @@ pub fn told(desk: Desk, script: &[u8]) -> Desk {
         let e = find(script, i, b'\n');
         let next = line(desk, &script[i..e]);
         desk = next;
-        if script.len() <= e {
-            return desk;
-        }
         i = past(e, script.len());
     }
     desk

@@ -1,7 +1,7 @@
 -- `checks::general` meets its contract. Assumes nothing.
 use borrow.Author.Needs.{needs}
 use Rattle.checks.proofs.Checks.{general-arm}
-use Rattle.checks.specs.Commands.{generalPlan}
+use Rattle.checks.specs.Checks.{generalPlan}
 use Rattle.checks.proofs.general.Statement.{statement}
 use Rattle.checks.proofs.general.Tie as tie
 

@@ -1,6 +1,6 @@
 -- `lines::reset` meets its contract. Assumes nothing.
 use borrow.Author.Needs.{needs}
-use Rattle.lines.proofs.Moving.{stays-there, reset-to}
+use Rattle.laid.proofs.Moving.{stays-there, reset-moves}
 use Rattle.lines.proofs.reset.Statement.{statement}
 use Rattle.lines.proofs.reset.Tie as tie
 
@@ -14,4 +14,4 @@ reset-spec =
     (λ c. search needs)
     (λ c κs. search needs)
     (λ c. search needs)
-    (λ c. search reset-to depth 6))
+    (λ c. search reset-moves depth 6))

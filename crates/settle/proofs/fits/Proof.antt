@@ -1,6 +1,6 @@
 -- `settle::fits` meets its contract. Assumes nothing.
 use borrow.Author.Needs.{needs}
-use Rattle.settle.proofs.Small.{small}
+use Rattle.settle.proofs.Jobs.{jobs}
 use Rattle.settle.proofs.fits.Statement.{statement}
 use Rattle.settle.proofs.fits.Tie as tie
 
@@ -11,16 +11,16 @@ fits-spec =
     (λ c. search needs)
     (λ c. search needs)
     (λ c κs. search needs)
-    (λ c. search small)
+    (λ c. search jobs)
     (λ c. search needs)
     (λ c. search needs)
     (λ c. search needs)
     (λ c. search needs)
     (λ c. search needs)
     (λ c. search needs)
-    (λ c. search small)
-    (λ c. search small)
-    (λ c. search small)
-    (λ c. search small)
-    (λ c. search small)
-    (λ c. search small))
+    (λ c. search jobs)
+    (λ c. search jobs)
+    (λ c. search jobs)
+    (λ c. search jobs)
+    (λ c. search jobs)
+    (λ c. search jobs))

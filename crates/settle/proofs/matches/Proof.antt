@@ -1,6 +1,6 @@
 -- `settle::matches` meets its contract. Assumes nothing.
 use borrow.Author.Needs.{needs}
-use Rattle.settle.proofs.Small.{small}
+use Rattle.settle.proofs.Jobs.{jobs}
 use Rattle.settle.proofs.matches.Statement.{statement}
 use Rattle.settle.proofs.matches.Tie as tie
 
@@ -21,5 +21,5 @@ matches-spec =
     (λ c. search needs)
     (λ c. search needs)
     (λ c. search needs)
-    (λ c. search small)
+    (λ c. search jobs)
     (λ c. search needs))

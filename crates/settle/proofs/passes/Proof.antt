@@ -1,6 +1,6 @@
 -- `settle::passes` meets its contract. Assumes nothing.
 use borrow.Author.Needs.{needs}
-use Rattle.settle.proofs.Small.{small}
+use Rattle.settle.proofs.Jobs.{jobs}
 use Rattle.settle.proofs.passes.Statement.{statement}
 use Rattle.settle.proofs.passes.Tie as tie
 
@@ -9,4 +9,4 @@ passes-spec =
     tie.close
     (tie.spec
     (λ c κs. search needs)
-    (λ c. search small))
+    (λ c. search jobs))

@@ -1,6 +1,6 @@
 -- `settle::taken_in` meets its contract. Assumes nothing.
 use borrow.Author.Needs.{needs}
-use Rattle.settle.proofs.Small.{small}
+use Rattle.settle.proofs.Jobs.{jobs}
 use Rattle.settle.proofs.taken_in.Statement.{statement}
 use Rattle.settle.proofs.taken_in.Tie as tie
 
@@ -18,7 +18,7 @@ taken-in-spec =
     (λ c. search needs)
     (λ c. search needs)
     (λ c. search needs)
-    (λ c. search small)
+    (λ c. search jobs)
     (λ c. search needs)
     (λ c. search needs)
     (λ c. search needs)

@@ -1,6 +1,6 @@
 -- `lines::personalise::personalise` meets its contract. Assumes nothing.
 use borrow.Author.Needs.{needs}
-use Rattle.lines.proofs.Moving.{stays-there, taken}
+use Rattle.laid.proofs.Moving.{stays-there, laid-moves}
 use Rattle.lines.proofs.personalise.personalise.Statement.{statement}
 use Rattle.lines.proofs.personalise.personalise.Tie as tie
 
@@ -9,9 +9,12 @@ personalise-spec =
     tie.close
     (tie.spec
     (λ c κs. search needs)
-    (λ c. search needs)
+    (λ c. search stays-there)
+    (λ c κs. search needs)
     (λ c κs. search needs)
     (λ c. search needs)
-    (λ c. search stays-there)
+    (λ c. search laid-moves depth 6)
+    (λ c κs. search needs)
+    (λ c κs. search needs)
     (λ c. search needs)
-    (λ c. search taken depth 6))
+    (λ c. search laid-moves depth 6))

@@ -1,6 +1,6 @@
 -- `lines::send::send` meets its contract. Assumes nothing.
 use borrow.Author.Needs.{needs}
-use Rattle.lines.proofs.Moving.{stays-there}
+use Rattle.laid.proofs.Moving.{stays-there}
 use Rattle.lines.proofs.send.send.Statement.{statement}
 use Rattle.lines.proofs.send.send.Tie as tie
 

@@ -1,6 +1,6 @@
 -- `run::Choice::rights` meets its contract. Assumes nothing.
 use borrow.Author.Needs.{needs}
-use Rattle.run.proofs.Small.{rights-arm}
+use Rattle.run.proofs.Choices.{rights-arm}
 use Rattle.run.proofs.Choice.rights.Statement.{statement}
 use Rattle.run.proofs.Choice.rights.Tie as tie
 

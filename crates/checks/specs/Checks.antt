@@ -1,0 +1,100 @@
+-- "Commands": the checks of each after moment and data, certificates apart, over the parts of the token that they look at. Assumes nothing: these are definitions.
+use Prim.Native.Nat.{ℕ}
+use mathlib.Core.Bool.{Bool, false, cond, not, _&&_, _||_}
+use lib.Dec.{eqb}
+use Rattle.names.specs.Names.{sameName}
+use Rattle.points.specs.Points.{noPoint}
+use Rattle.rights.specs.Rights.{hasRight, readsGroup}
+use Rattle.names.specs.declared.Name.{Name}
+use Rattle.keys.specs.declared.Key.{Key}
+use Rattle.run.specs.declared.Choice.{Choice}
+use Rattle.run.specs.declared.Step.{Step}
+use Rattle.run.specs.Run.{passwordOf, isPin, isPuk, stepNumber}
+use Rattle.event.specs.declared.Refusal.the-variants.{Lacking, Moment, Data, NotFound}
+use Rattle.event.specs.declared.Event.{Event}
+use Rattle.event.specs.declared.Event.the-variants.{Refused, Announced as IsAnnounced, Authenticated as IsAuthenticated, ChipLost, ReadAllowed, PinChanged, NotPassed}
+use Rattle.course.specs.declared.Job.the-variants.{Step as StepJob, ChipKey, PinChange}
+use Rattle.course.specs.declared.Course.the-variants.{Settled, Awaits}
+use Rattle.course.specs.declared.Plan.{Plan}
+use Rattle.course.specs.Course.{settledBy, awaitsBy}
+use Rattle.order.specs.Order.{chooseLadder, grounded, unblockLadder}
+use Rattle.outcome.specs.Outcome.{passedEvent, otherEvent}
+use Rattle.fields.specs.declared.asked.Content.{Content}
+use Rattle.fields.specs.declared.asked.Content.the-variants.{Step as StepData, Chip}
+use Rattle.standing.specs.declared.Stage.{Stage}
+use Rattle.standing.specs.declared.Stage.the-variants.{Idle, Run, Announced, Challenged, Proven, ChipKeyChosen, Authenticated}
+use Rattle.session.specs.declared.Context.{Context}
+use Rattle.standing.specs.declared.Opened.{Opened}
+use Rattle.standing.specs.Standing.{openedByPin, openedByCan, openedByPuk}
+use Rattle.authorization.specs.Authorization.{authorization}
+
+-- "Bit 5 is that of the effective authorization"
+abbrev pub managesPin : Context → Bool
+managesPin z = hasRight 5 (authorization z)
+
+-- ---- Choose password
+
+unfoldable pub choosePlan : ℕ → Bool → ℕ → Opened → Choice → Plan
+choosePlan pin active puk opened c =
+    settledBy (chooseLadder
+    -- counter 0
+    (isPin (passwordOf c) && eqb pin 0)
+    -- inactive
+    (isPin (passwordOf c) && not active)
+    -- counter 1 unless the CAN opened this session
+    (isPin (passwordOf c) && eqb pin 1 && not (openedByCan opened))
+    -- PUK with no uses
+    (isPuk (passwordOf c) && eqb puk 0)
+    c
+    pin)
+
+-- ---- Run step
+
+-- "7C holding nothing, 81, 83, 85": the data of this step
+abbrev pub isFor : Content → Step → Bool
+isFor (StepData q) p = eqb (stepNumber q) (stepNumber p)
+isFor Chip p = false
+
+unfoldable pub runPlan : ℕ → Choice → Step → Content → Plan
+runPlan pin c p x = cond (not (isFor x p)) (settledBy (Refused Data)) (awaitsBy (StepJob p) (passedEvent c p) (otherEvent c p pin))
+
+-- ---- the chip key: "7C holding 80 (1 to 140)"; "compared whole with 91"
+
+unfoldable pub chipPlan : Key → Content → Plan
+chipPlan announced (StepData q) = settledBy (Refused Data)
+chipPlan announced Chip = record { course = Awaits ChipKey IsAuthenticated ChipLost; point = noPoint; key = announced }
+
+-- 86 is a run step in a run, and the chip key's when one is chosen
+unfoldable pub generalPlan : Context → ℕ → Stage → Content → Plan
+generalPlan z pin (Run c p) x = runPlan pin c p x
+generalPlan z pin ChipKeyChosen x = chipPlan (z .key) x
+generalPlan z pin Idle x = settledBy (Refused Moment)
+generalPlan z pin Announced x = settledBy (Refused Moment)
+generalPlan z pin Challenged x = settledBy (Refused Moment)
+generalPlan z pin Proven x = settledBy (Refused Moment)
+generalPlan z pin Authenticated x = settledBy (Refused Moment)
+
+-- ---- Announce: "83 the chain's terminal (6A88)"
+
+unfoldable pub announcePlan : Name → Name → Key → Plan
+announcePlan terminal n k = cond (sameName n terminal) (record { course = Settled IsAnnounced; point = noPoint; key = k }) (settledBy (Refused NotFound))
+
+-- ---- Read: "9000 without data, or 6982"
+
+unfoldable pub readPlan : Context → ℕ → Plan
+readPlan z n = settledBy (grounded (readsGroup (authorization z) n) ReadAllowed)
+
+-- ---- Change PIN: "session opened by PIN and PIN active, or authenticated with bit 5. Not passed 6300, same state"
+
+unfoldable pub changePlan : Context → Bool → Plan
+changePlan z active = cond ((openedByPin (z .opened) && active) || managesPin z) (awaitsBy PinChange PinChanged NotPassed) (settledBy (Refused Lacking))
+
+-- ---- Unblock: "opened by PUK (takes one use; none left 6983), or bit 5. Counter 3 is 6985, after 6983"
+
+unfoldable pub unblockPlan : Context → Bool → Bool → Plan
+unblockPlan z used full = settledBy (unblockLadder (openedByPuk (z .opened)) (managesPin z) used full)
+
+-- ---- Activate, deactivate: "bit 5; repeating is 9000"
+
+unfoldable pub activePlan : Context → Event → Plan
+activePlan z done = settledBy (grounded (managesPin z) done)

@@ -1,0 +1,63 @@
+// The words of a line that asks what a token wants or which group it would let be read, and those of its answer.
+use super::send::note_of;
+use super::stated::number;
+use super::stated::string;
+use super::words::label;
+use super::words::spaces;
+use super::words::word;
+use course::Job;
+use course::Note;
+use digits::number::Radix;
+use reply::ROOM;
+use strings::same;
+use text::front;
+
+// What a command is asked about with, and its length; not good where a word is not as it should be.
+pub struct Question {
+    pub good: bool,
+    pub note: Note,
+    pub len: usize,
+}
+
+// A data group that may be asked about; not good where a word is not as it should be.
+pub struct Group {
+    pub good: bool,
+    pub number: u8,
+}
+
+pub fn read_question(line: &[u8], command: &mut [u8]) -> Question {
+    let x = note_of(word(line, 1));
+    let a = string(word(line, 2), &mut *command);
+    let note = x.note;
+    Question {
+        good: x.good & a.good & (spaces(line) == 2),
+        note: note,
+        len: a.len,
+    }
+}
+
+pub fn wanted(out: &mut [u8], job: Job) -> usize {
+    label(
+        &mut *out,
+        0,
+        b"0 none\n1 step 1\n2 step 2\n3 step 3\n4 step 4\n5 certificate\n6 challenge\n7 proof\n8 chip key\n9 PIN change",
+        job.number() as usize,
+    )
+}
+
+pub fn read_group(line: &[u8]) -> Group {
+    let x = number(word(line, 1), Radix::Ten);
+    Group {
+        good: x.good & (1 <= x.n) & (x.n <= 21) & (spaces(line) == 1),
+        number: (x.n % 256) as u8,
+    }
+}
+
+// Whether a reply is 9000.
+pub fn done(reply: [u8; ROOM], len: usize) -> bool {
+    same(front(&reply, len), b"\x90\x00")
+}
+
+pub fn yes_or_no(out: &mut [u8], yes: bool) -> usize {
+    label(&mut *out, 0, b"no\nyes", yes as usize)
+}

@@ -1,0 +1,62 @@
+// The body of a certificate.
+use super::BYTES;
+use super::labelled;
+use super::stated::string;
+use super::words::spaces;
+use super::words::word;
+use certificate::Body;
+use certificate::Place;
+use certificate::read_body;
+use names::Name;
+use points::Point;
+use status::Intake;
+use text::front;
+use text::put;
+
+// No extension stands at the start of a body.
+fn place(out: &mut [u8], at: usize, label: &[u8], p: Place) -> usize {
+    if p.start == 0 {
+        let next = put(&mut *out, at, label);
+        return put(&mut *out, next, b"none");
+    }
+    let next = labelled::number(&mut *out, at, label, p.start as u64);
+    labelled::number(&mut *out, next, b"..", p.end as u64)
+}
+
+fn terms(out: &mut [u8], issuer: Name, p: Point) -> usize {
+    let own = p.name;
+    let rights = p.rights;
+    let first = p.first;
+    let last = p.last;
+    let a = labelled::name(&mut *out, 0, b"issuer=", true, issuer);
+    let b = labelled::name(&mut *out, a, b" name=", true, own);
+    let c = labelled::rights(&mut *out, b, b" rights=", rights);
+    let d = labelled::day(&mut *out, c, b" first=", first);
+    labelled::day(&mut *out, d, b" last=", last)
+}
+
+fn fields(out: &mut [u8], b: Body) -> usize {
+    let issuer = b.issuer;
+    let point = b.point;
+    let key = b.key;
+    let extension = b.ext;
+    let x = terms(&mut *out, issuer, point);
+    let y = place(&mut *out, x, b" key=", key);
+    let z = place(&mut *out, y, b" extension=", extension);
+    labelled::number(&mut *out, z, b" objects=", b.count as u64)
+}
+
+pub fn body(line: &[u8], out: &mut [u8]) -> usize {
+    let mut work = [0u8; BYTES];
+    let a = string(word(line, 1), &mut work);
+    if !(a.good & (spaces(line) == 1)) {
+        return 0;
+    }
+    let r = read_body(front(&work, a.len));
+    let answer = r.answer;
+    let read = r.body;
+    if let Intake::Unfit = answer {
+        return put(&mut *out, 0, b"6A80");
+    }
+    fields(&mut *out, read)
+}

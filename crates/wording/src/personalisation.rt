@@ -1,0 +1,72 @@
+// The words of a personalisation: the day, and one trust point or two.
+ghost use Prim.Native.Nat.{_≤_};
+use super::BYTES;
+use super::stated::day;
+use super::stated::fixed;
+use super::stated::name;
+use super::stated::number;
+use super::stated::string;
+use super::words::spaces;
+use super::words::word;
+use days::Day;
+use digits::number::Radix;
+use points::Point;
+use rights::Rights;
+use text::front;
+
+// A trust point that five words state; not good where a word is not one.
+struct Trusted {
+    good: bool,
+    point: Point,
+}
+
+// What a line states; not good where a word is not as it should be. The previous point counts where there are two.
+pub struct Personalisation {
+    pub good: bool,
+    pub two: bool,
+    pub today: Day,
+    pub newest: Point,
+    pub previous: Point,
+}
+
+// The trust point that the words from k on state.
+fn point_at(line: &[u8], k: usize) -> Trusted
+    requires { ⌜ k ≤ 7 ⌝ }
+{
+    let mut work = [0u8; BYTES];
+    let rights = fixed(word(line, k + 1), Radix::Sixteen, 10);
+    let first = fixed(word(line, k + 2), Radix::Ten, 6);
+    let last = fixed(word(line, k + 3), Radix::Ten, 6);
+    let key = number(word(line, k + 4), Radix::Ten);
+    let from = day(first.n);
+    let to = day(last.n);
+    let called = string(word(line, k), &mut work);
+    let own = name(front(&work, called.len));
+    Trusted {
+        good: called.good & rights.good & first.good & last.good & key.good,
+        point: Point {
+            name: own,
+            rights: Rights(rights.n),
+            first: from,
+            last: to,
+            key: key.n,
+        },
+    }
+}
+
+pub fn read_personalisation(line: &[u8]) -> Personalisation {
+    let n = spaces(line);
+    let date = fixed(word(line, 1), Radix::Ten, 6);
+    let today = day(date.n);
+    let a = point_at(line, 2);
+    let b = point_at(line, 7);
+    let newest = a.point;
+    let previous = b.point;
+    Personalisation {
+        good: date.good & a.good & ((n == 6) | (b.good & (n == 11))),
+        two: n == 11,
+        today: today,
+        newest: newest,
+        previous: previous,
+    }
+}

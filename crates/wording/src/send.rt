@@ -1,0 +1,156 @@
+// The words of a line that sends a command with its crypto result, and the reply's.
+use super::stated::Strung;
+use super::stated::number;
+use super::stated::string;
+use super::words::spaces;
+use super::words::word;
+use course::Job;
+use course::Note;
+use digits::hex::put_hex;
+use digits::number::Radix;
+use reply::ROOM;
+use run::Step;
+use settle::Verdict;
+use strings::same;
+use text::front;
+
+// How a command came; not good where a word does not say so.
+pub(crate) struct Noted {
+    pub(crate) good: bool,
+    pub(crate) note: Note,
+}
+
+struct Judged {
+    good: bool,
+    verdict: Verdict,
+}
+
+// The job that a line names, or the one that the token wants.
+pub struct Named {
+    pub good: bool,
+    pub wanted: bool,
+    pub job: Job,
+}
+
+// What a line's words state, with the lengths of its three strings; not good where a word is not as it should be.
+pub struct Sent {
+    pub good: bool,
+    pub note: Note,
+    pub verdict: Verdict,
+    pub job: Named,
+    pub command: usize,
+    pub first: usize,
+    pub second: usize,
+}
+
+pub(crate) fn note_of(w: &[u8]) -> Noted {
+    if same(w, b"plain") {
+        return Noted {
+            good: true,
+            note: Note::Plain,
+        };
+    }
+    if same(w, b"protected") {
+        return Noted {
+            good: true,
+            note: Note::Protected,
+        };
+    }
+    Noted {
+        good: same(w, b"broken"),
+        note: Note::Broken,
+    }
+}
+
+// The verdict that words 3 and 4 state.
+fn verdict_of(line: &[u8], n: usize) -> Judged {
+    let w = word(line, 3);
+    let key = number(word(line, 4), Radix::Ten);
+    let keyed = key.good | (n < 4);
+    if same(w, b"passed") {
+        return Judged {
+            good: keyed,
+            verdict: Verdict::Passed(key.n),
+        };
+    }
+    if same(w, b"failed") {
+        return Judged {
+            good: keyed,
+            verdict: Verdict::Failed,
+        };
+    }
+    Judged {
+        good: (keyed & same(w, b"none")) | (n < 3),
+        verdict: Verdict::Missing,
+    }
+}
+
+// A string that may be left out.
+fn string_if(line: &[u8], n: usize, k: usize, out: &mut [u8]) -> Strung {
+    let x = string(word(line, k), &mut *out);
+    Strung {
+        good: x.good | (n < k),
+        len: x.len,
+    }
+}
+
+fn job_of(n: u64) -> Job {
+    match n {
+        1 => Job::Step(Step::Nonce),
+        2 => Job::Step(Step::Map),
+        3 => Job::Step(Step::Agree),
+        4 => Job::Step(Step::Confirm),
+        5 => Job::Certificate,
+        6 => Job::Challenge,
+        7 => Job::Proof,
+        8 => Job::ChipKey,
+        9 => Job::PinChange,
+        _ => Job::Nothing,
+    }
+}
+
+fn job_at(line: &[u8], n: usize) -> Named {
+    let x = number(word(line, 7), Radix::Ten);
+    Named {
+        good: (x.good & (x.n <= 9)) | (n < 7),
+        wanted: n < 7,
+        job: job_of(x.n),
+    }
+}
+
+impl Named {
+    // The job that the result is for.
+    pub fn settled(self, wanted: Job) -> Job {
+        if self.wanted {
+            return wanted;
+        }
+        let job = self.job;
+        job
+    }
+}
+
+pub fn read_sent(line: &[u8], command: &mut [u8], first: &mut [u8], second: &mut [u8]) -> Sent {
+    let n = spaces(line);
+    let note = note_of(word(line, 1));
+    let verdict = verdict_of(line, n);
+    let job = job_at(line, n);
+    let a = string(word(line, 2), &mut *command);
+    let b = string_if(line, n, 5, &mut *first);
+    let c = string_if(line, n, 6, &mut *second);
+    let how = note.note;
+    let said = verdict.verdict;
+    Sent {
+        good: note.good & verdict.good & job.good & a.good & b.good & c.good & (n <= 7),
+        note: how,
+        verdict: said,
+        job: job,
+        command: a.len,
+        first: b.len,
+        second: c.len,
+    }
+}
+
+// As much of the buffer as was written.
+pub fn replied(out: &mut [u8], reply: [u8; ROOM], len: usize) -> usize {
+    put_hex(&mut *out, 0, front(&reply, len))
+}
