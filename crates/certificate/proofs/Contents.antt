@@ -25,7 +25,7 @@ use Rattle.names.specs.Names.{noName}
 use Rattle.points.specs.Points.{noPoint}
 use Rattle.names.specs.declared.Name.{Name}
 use Rattle.points.specs.declared.Point.{Point}
-use Rattle.certificate.specs.Body.{mechanism, isKey, keyObjects, noPlace, unread}
+use Rattle.certificate.specs.Body.{mechanism, isPublicKey, keyObjects, noPlace, unread}
 use Rattle.certificate.specs.declared.Reading.{Reading}
 use Rattle.status.specs.declared.Intake.the-variants.{Unfit}
 
@@ -56,16 +56,16 @@ key-counts s h =
 
 module _ (left : ℕ) (s : List ℕ) where
   pub key-short : length s < 12 → Refused ≡ keyObjects left s
-  unfolding keyObjects isKey
+  unfolding keyObjects isPublicKey
   key-short h = let l = length-take 12 s in rw (sym (same-lengths (take 12 s) mechanism (λ e. let f : length (take 12 s) ≡ 12 = e in omega (arith, l))))
 
   module _ (some : 1 ≤ left) (t : Bool) (is : t ≡ eqbs (take 12 s) mechanism) where
     pub key-other : t ≡ false → Refused ≡ keyObjects left s
-    unfolding keyObjects isKey
+    unfolding keyObjects isPublicKey
     key-other e = rw (sym is ∙ e)
 
     key-are : t ≡ true → keyObjects left s ≡ plus 1 (within (left - 1) (objectsAt 3 (rest s 12)))
-    unfolding keyObjects isKey
+    unfolding keyObjects isPublicKey
     key-are e = rw (sym is ∙ e, key-counts s (sym is ∙ e), from s 12) (plus-within left 1 (objectsAt 3 (drop 12 s)) some)
 
     module _ (e : t ≡ true) (w : Count) (v : w ≡ within (left - 1) (objectsAt 3 (rest s 12))) where

@@ -7,7 +7,7 @@ use lib.Dec.{eqb}
 use lib.ListN.{length, drop}
 use Rattle.laws.proofs.Bools.{of-both, and-l, and-r, true-false}
 use Rattle.objects.specs.Objects.{part, objectsIn}
-use Rattle.objects.specs.Chain.{taken}
+use Rattle.objects.specs.Chain.{taken, any}
 use Rattle.objects.proofs.Chain.{taken-all, answered-all}
 use Rattle.strings.specs.Bytes.{eqbs}
 use Rattle.names.specs.Names.{isName, nameOf, nameFits}
@@ -20,7 +20,7 @@ use Rattle.rights.specs.declared.Rights.{Rights}
 use Rattle.names.proofs.Kept.{name-good}
 use Rattle.days.proofs.Kept.{day-good}
 use Rattle.rights.proofs.Kept.{rights-good}
-use Rattle.certificate.specs.Body.{unread, read, any, ended, placeOf, isLast, isKey, isSignature, Pending, bodyOf, wholeOf, signedOf, signedWhole, versionThen, issuerThen, keyThen, ownThen, rightsThen, firstThen, lastThen, extThen}
+use Rattle.certificate.specs.Body.{unread, read, ended, placeOf, isLast, isPublicKey, isSignature, Pending, bodyOf, wholeOf, signedOf, signedWhole, versionThen, issuerThen, keyThen, ownThen, rightsThen, firstThen, lastThen, extThen}
 use Rattle.certificate.specs.declared.Place.{Place}
 use Rattle.certificate.specs.declared.Body.{Body}
 use Rattle.certificate.specs.declared.Reading.{Reading}
@@ -77,7 +77,7 @@ module _ (stop : ℕ) where
   key-good : (issuer : Name) → nameFits issuer ≡ true → (s : List ℕ) (n : ℕ) → ReadGood (keyThen stop issuer s n)
   unfolding keyThen
   key-good issuer i s n =
-      taken-all unread ReadGood never 0x7F49 true isKey s (λ c e. ownThen stop issuer (placeOf stop s e)) (λ a e h. own-good issuer (placeOf stop s e) i (drop e s)) n
+      taken-all unread ReadGood never 0x7F49 true isPublicKey s (λ c e. ownThen stop issuer (placeOf stop s e)) (λ a e h. own-good issuer (placeOf stop s e) i (drop e s)) n
 
   issuer-good : (s : List ℕ) (n : ℕ) → ReadGood (issuerThen stop s n)
   unfolding issuerThen

@@ -13,7 +13,7 @@ use mir.Syntax.{w64}
 use lib.Dec.{eqb, leb}
 use lib.ListN.{length, drop, length-drop}
 use Rattle.objects.specs.Objects.{allowance, deepest, part, objectsAt, within, foundIn}
-use Rattle.objects.specs.Chain.{counted, taken, takenBy}
+use Rattle.objects.specs.Chain.{counted, taken, takenBy, any}
 use Rattle.objects.specs.declared.Count.{Count}
 use Rattle.objects.specs.declared.Count.the-variants.{Objects, Refused}
 use Rattle.objects.specs.declared.Found.{Found}
@@ -26,7 +26,7 @@ use Rattle.strings.specs.Bytes.{eqbs, among}
 use Rattle.names.specs.Names.{isName, nameOf}
 use Rattle.days.specs.Days.{isDay, dayOf, dated, before}
 use Rattle.rights.specs.Rights.{isRights, rightsOf, granted}
-use Rattle.certificate.specs.Body.{isLast, isKey, keyObjects, isSignature, unread, read, noPlace, any, ended, placeOf, bodyOf, wholeOf, signedOf, signedWhole, isSigned, signsBy, versionThen, issuerThen, keyThen, ownThen, rightsThen, firstThen, lastThen, extThen}
+use Rattle.certificate.specs.Body.{isLast, isPublicKey, keyObjects, isSignature, unread, read, noPlace, ended, placeOf, bodyOf, wholeOf, signedOf, signedWhole, isSigned, signsBy, versionThen, issuerThen, keyThen, ownThen, rightsThen, firstThen, lastThen, extThen}
 use Rattle.names.specs.declared.Name.{Name}
 use Rattle.days.specs.declared.Day.{Day}
 use Rattle.rights.specs.declared.Rights.{Rights}
@@ -79,9 +79,9 @@ module _ (stop used : ℕ) (s : List ℕ) (f : Found) (is : f ≡ foundIn 0x42 f
   issuer-on q r v g = g ∙ rw v (sym (flat-taken unread used (deepest - 2) s 0x42 isName _ a e (sym is ∙ p) (sym q ∙ r)))
 
 -- 7F49
-key-holds : (left : ℕ) (c : List ℕ) (n : ℕ) → keyObjects left c ≡ Objects n → (isKey c ≡ true) × (objectsAt 3 c ≡ Objects n) × (n ≤ left)
+key-holds : (left : ℕ) (c : List ℕ) (n : ℕ) → keyObjects left c ≡ Objects n → (isPublicKey c ≡ true) × (objectsAt 3 c ≡ Objects n) × (n ≤ left)
 unfolding keyObjects
-key-holds left c n = go (isKey c)
+key-holds left c n = go (isPublicKey c)
   where
     go : (b : Bool) → cond b (within left (objectsAt 3 c)) Refused ≡ Objects n → (b ≡ true) × (objectsAt 3 c ≡ Objects n) × (n ≤ left)
     go true e = let k = kept-objects left (objectsAt 3 c) n e in (refl, k .0, k .1)
@@ -102,16 +102,16 @@ module _ (stop used : ℕ) (issuer : Name) (s : List ℕ) (f : Found) (is : f �
   key-on n r g =
       let k = key-holds (allowance - 1 - used) (part a e s) n (sym v ∙ r) in
       let l : used + 1 + n ≡ used + (n + 1) = omega arith in
-      g ∙ rw l (sym (nest-taken unread used (deepest - 2) s 0x7F49 isKey _ a e n (omega arith) (sym is ∙ p) (k .0) (k .1)))
+      g ∙ rw l (sym (nest-taken unread used (deepest - 2) s 0x7F49 isPublicKey _ a e n (omega arith) (sym is ∙ p) (k .0) (k .1)))
 
   pub key-off : x ≡ unread → w ≡ Refused → x ≡ counted unread used (objectsAt 2 s) (keyThen stop issuer s)
   unfolding keyThen keyObjects
-  key-off u r = u ∙ sym (go (isKey (part a e s)) refl (sym v ∙ r))
+  key-off u r = u ∙ sym (go (isPublicKey (part a e s)) refl (sym v ∙ r))
     where
-      go : (b : Bool) → isKey (part a e s) ≡ b → cond b (within (allowance - 1 - used) (objectsAt 3 (part a e s))) Refused ≡ Refused
+      go : (b : Bool) → isPublicKey (part a e s) ≡ b → cond b (within (allowance - 1 - used) (objectsAt 3 (part a e s))) Refused ≡ Refused
           → counted unread used (objectsAt 2 s) (keyThen stop issuer s) ≡ unread
       go true q j = nest-refused unread used (deepest - 2) s 0x7F49 a e (allowance - 1 - used) (keyThen stop issuer s) (omega arith) (sym is ∙ p) (omega arith) j
-      go false q j = not-fit unread used (deepest - 2) s 0x7F49 isKey (λ c e. ownThen stop issuer (placeOf stop s e)) true (objectsAt 2 s) a e (sym is ∙ p) q
+      go false q j = not-fit unread used (deepest - 2) s 0x7F49 isPublicKey (λ c e. ownThen stop issuer (placeOf stop s e)) true (objectsAt 2 s) a e (sym is ∙ p) q
 
 -- 5F20
 module _ (stop used : ℕ) (issuer : Name) (key : Place) (s : List ℕ) (f : Found) (is : f ≡ foundIn 0x5F20 false s) (a e : ℕ) (p : f ≡ Content a e)

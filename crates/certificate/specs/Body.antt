@@ -8,7 +8,7 @@ use lib.Dec.{eqb}
 use Rattle.objects.specs.Objects.{objectsAt, objectsIn, within, foundIn}
 use Rattle.objects.specs.declared.Count.{Count}
 use Rattle.objects.specs.declared.Count.the-variants.{Refused}
-use Rattle.objects.specs.Chain.{answered, taken}
+use Rattle.objects.specs.Chain.{answered, any, taken}
 use Rattle.objects.specs.declared.Found.{Found}
 use Rattle.objects.specs.declared.Found.the-variants.{Content, Missing}
 use Rattle.strings.specs.Bytes.{eqbs, among}
@@ -49,19 +49,19 @@ placeOf stop s e = record { start = stop - length s; end = stop - length s + e }
 abbrev pub ended : List ℕ → Pending → Pending
 ended s k = cond (eqb (length s) 0) k (λ n. unread)
 
-abbrev pub any : List ℕ → Bool
-any c = true
-
 -- a public key starts with 06 and 04 00 7F 00 07 02 02 02 02 03
 abbrev pub mechanism : List ℕ
 mechanism = 0x06 ∷ 10 ∷ 0x04 ∷ 0x00 ∷ 0x7F ∷ 0x00 ∷ 0x07 ∷ 0x02 ∷ 0x02 ∷ 0x02 ∷ 0x02 ∷ 0x03 ∷ []
 
-unfoldable pub isKey : List ℕ → Bool
-isKey c = eqbs (take 12 c) mechanism
+unfoldable pub isPublicKey : List ℕ → Bool
+isPublicKey c = eqbs (take 12 c) mechanism
 
 -- "5F37 (1 to 256 bytes)"
+abbrev pub longestSignature : ℕ
+longestSignature = 256
+
 unfoldable pub isSignature : List ℕ → Bool
-isSignature c = among 1 256 (length c)
+isSignature c = among 1 longestSignature (length c)
 
 -- a day that is not before the first
 abbrev pub isLast : Day → List ℕ → Bool
@@ -93,7 +93,7 @@ module _ (stop : ℕ) where
 
   -- 7F49 starting with 06 and the TA mechanism
   unfoldable pub keyThen : Name → List ℕ → Pending
-  keyThen issuer s = taken unread 0x7F49 true isKey s (λ c e. ownThen issuer (placeOf stop s e))
+  keyThen issuer s = taken unread 0x7F49 true isPublicKey s (λ c e. ownThen issuer (placeOf stop s e))
 
   -- 42 issuer name
   unfoldable pub issuerThen : List ℕ → Pending
@@ -122,12 +122,12 @@ signedOf s = answered unread (objectsIn s) (signedWhole s)
 
 -- the objects of a public key, at depth 3, if no more than so many are left
 unfoldable pub keyObjects : ℕ → List ℕ → Count
-keyObjects left c = cond (isKey c) (within left (objectsAt 3 c)) Refused
+keyObjects left c = cond (isPublicKey c) (within left (objectsAt 3 c)) Refused
 
 -- 5F37 with a signature, alone
 abbrev pub signsBy : List ℕ → Found → Bool
 signsBy r Missing = false
-signsBy r (Content a z) = among 1 256 (z - a) && eqb z (length r)
+signsBy r (Content a z) = among 1 longestSignature (z - a) && eqb z (length r)
 
 unfoldable pub isSigned : List ℕ → Bool
 isSigned r = signsBy r (foundIn 0x5F37 false r)

@@ -9,7 +9,7 @@ use Rattle.days.specs.Days.{isDate, dayFits, isDay, before, later}
 use Rattle.rights.specs.Rights.{rightsFit, roleOf, isRights, andOf, common, groupMask, readsGroup}
 use Rattle.points.specs.Points.{noPoint, pointFits, expired, withKey}
 use Rattle.status.specs.Words.{number}
-use Rattle.certificate.specs.Body.{isKey, isSignature, wholeOf, signedWhole, signedOf, versionThen, issuerThen, keyThen, ownThen, rightsThen, firstThen, lastThen, extThen}
+use Rattle.certificate.specs.Body.{isPublicKey, isSignature, wholeOf, signedWhole, signedOf, versionThen, issuerThen, keyThen, ownThen, rightsThen, firstThen, lastThen, extThen}
 use Rattle.command.specs.Form.{formOf, afterHeader, bodyOf, extendedOf, shortOf, longOf, afterShort, afterLong}
 use Rattle.command.specs.Kind.{kindOf}
 use Rattle.command.specs.Shape.{shapeOf, headedOf}

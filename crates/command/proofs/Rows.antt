@@ -9,13 +9,13 @@ use Rattle.command.specs.Kind.{kindOf, rowOf, readOf, wantsOf, present, 
 use Rattle.command.specs.declared.form.Le.{Le}
 use Rattle.command.specs.declared.form.Le.the-variants.{Number}
 use Rattle.command.specs.declared.kind.Kind.{Kind}
-use Rattle.command.specs.declared.kind.Asked.{Asked}
-use Rattle.command.specs.declared.kind.Asked.the-variants.{NoIns}
+use Rattle.command.specs.declared.kind.Lookup.{Lookup}
+use Rattle.command.specs.declared.kind.Lookup.the-variants.{NoIns}
 use Rattle.command.specs.declared.kind.LeRule.{LeRule}
 use Rattle.command.specs.declared.kind.Wants.{Wants}
 use Rattle.command.specs.declared.kind.Wants.the-variants.{Data, NoData}
 
-module _ (ins p1 p2 : ℕ) (r : Asked) where
+module _ (ins p1 p2 : ℕ) (r : Lookup) where
   pub of-row : (i p : ℕ) → ins ≡ i → p ≡ pairOf p1 p2 → eqb i 0xB0 ≡ false → r ≡ rowOf i p → r ≡ kindOf ins p1 p2
   unfolding kindOf
   of-row i p e h n q = rw (e, n, ← h) q

@@ -9,15 +9,15 @@ use lib.ListN.{length, getD}
 use Rattle.laws.proofs.Bools.{of-both}
 use Rattle.command.specs.Form.{formOf}
 use Rattle.command.specs.Kind.{classFits, kindOf, present, wantsOf}
-use Rattle.command.specs.Shape.{shapeOf, headedOf, askedOf, formed}
+use Rattle.command.specs.Shape.{shapeOf, headedOf, lookedUp, formed}
 use Rattle.command.proofs.Forms.{FormIn, form-in, form-sizes}
 use Rattle.command.specs.declared.Fault.{Fault}
 use Rattle.command.specs.declared.form.Le.{Le}
 use Rattle.command.specs.declared.form.Form.{Form}
 use Rattle.command.specs.declared.form.Form.the-variants.{Of, Wrong}
 use Rattle.command.specs.declared.kind.Kind.{Kind}
-use Rattle.command.specs.declared.kind.Asked.{Asked}
-use Rattle.command.specs.declared.kind.Asked.the-variants.{For, NoIns, NoParams}
+use Rattle.command.specs.declared.kind.Lookup.{Lookup}
+use Rattle.command.specs.declared.kind.Lookup.the-variants.{For, NoIns, NoParams}
 use Rattle.command.specs.declared.kind.Wants.{Wants}
 use Rattle.command.specs.declared.Fault.the-variants.{Form as FormFault, Class, Instruction, Parameters, Presence}
 use Rattle.command.specs.declared.Shape.{Shape}
@@ -28,7 +28,7 @@ module _ (cla ins p1 p2 a e : ℕ) (le : Le) (b : Bool) (h : b ≡ classFits cla
   unfolding headedOf
   no-class y = rw (← h, y)
 
-  module _ (y : not b ≡ false) (q : Asked) (f : q ≡ kindOf ins p1 p2) where
+  module _ (y : not b ≡ false) (q : Lookup) (f : q ≡ kindOf ins p1 p2) where
     pub no-ins : q ≡ NoIns → Faulty Instruction ≡ headedOf cla ins p1 p2 a e le
     unfolding headedOf
     no-ins g = rw (← h, y, sym f ∙ g)
@@ -74,12 +74,12 @@ shape-sizes (shape-of p q) = (p, q)
 
 headed-in : (n cla ins p1 p2 a e : ℕ) (le : Le) → a ≤ e → e ≤ n → ShapeIn n (headedOf cla ins p1 p2 a e le)
 unfolding headedOf
-headed-in n cla ins p1 p2 a e le p q = of-both (ShapeIn n) (not (classFits cla ins)) no-shape (asked (kindOf ins p1 p2))
+headed-in n cla ins p1 p2 a e le p q = of-both (ShapeIn n) (not (classFits cla ins)) no-shape (looked (kindOf ins p1 p2))
   where
-    asked : (x : Asked) → ShapeIn n (askedOf x cla a e le)
-    asked NoIns = no-shape
-    asked NoParams = no-shape
-    asked (For k) = of-both (ShapeIn n) (present (wantsOf k) (ltb a e) le) (shape-of p q) no-shape
+    looked : (x : Lookup) → ShapeIn n (lookedUp x cla a e le)
+    looked NoIns = no-shape
+    looked NoParams = no-shape
+    looked (For k) = of-both (ShapeIn n) (present (wantsOf k) (ltb a e) le) (shape-of p q) no-shape
 
 shape-in : (s : List ℕ) → ShapeIn (length s) (shapeOf s)
 unfolding shapeOf

@@ -8,8 +8,8 @@ use Rattle.command.specs.declared.form.Le.{Le}
 use Rattle.command.specs.declared.form.Le.the-variants.{Absent, Number}
 use Rattle.command.specs.declared.kind.Kind.{Kind}
 use Rattle.command.specs.declared.kind.Kind.the-variants.{ChoosePassword, General, SelectIssuer, VerifyCertificate, Announce, Challenge, ProveTerminal, ChooseChipKey, Read, ChangePin, Unblock, Activate, Deactivate}
-use Rattle.command.specs.declared.kind.Asked.{Asked}
-use Rattle.command.specs.declared.kind.Asked.the-variants.{For, NoIns, NoParams}
+use Rattle.command.specs.declared.kind.Lookup.{Lookup}
+use Rattle.command.specs.declared.kind.Lookup.the-variants.{For, NoIns, NoParams}
 use Rattle.command.specs.declared.kind.LeRule.{LeRule}
 use Rattle.command.specs.declared.kind.LeRule.the-variants.{NoLe, Zero, Eight, AnyLe}
 use Rattle.command.specs.declared.kind.Wants.{Wants}
@@ -43,19 +43,19 @@ commands =
     ∷ []
 
 -- the row of this INS and P1-P2; with none, what the rows say of the INS so far
-abbrev pub listed : List Row → ℕ → ℕ → Asked → Asked
+abbrev pub listed : List Row → ℕ → ℕ → Lookup → Lookup
 listed [] ins p sofar = sofar
 listed (row i q k ∷ rows) ins p sofar = cond (eqb ins i) (cond (eqb p q) (For k) (listed rows ins p NoParams)) (listed rows ins p sofar)
 
 -- INS unknown, unless a row has it
-abbrev pub rowOf : ℕ → ℕ → Asked
+abbrev pub rowOf : ℕ → ℕ → Lookup
 rowOf ins p = listed commands ins p NoIns
 
 -- B0, P1 80+n, n 1..21, any P2
-abbrev pub readOf : ℕ → Asked
+abbrev pub readOf : ℕ → Lookup
 readOf p1 = cond (ltb p1 0x81) NoParams (cond (ltb 0x95 p1) NoParams (For (Read (p1 - 0x80))))
 
-unfoldable pub kindOf : ℕ → ℕ → ℕ → Asked
+unfoldable pub kindOf : ℕ → ℕ → ℕ → Lookup
 kindOf ins p1 p2 = cond (eqb ins 0xB0) (readOf p1) (rowOf ins (pairOf p1 p2))
 
 -- ---- presence of data and Le

@@ -7,8 +7,8 @@ use lib.ListN.{getD}
 use Rattle.command.specs.declared.form.Le.{Le}
 use Rattle.command.specs.declared.form.Form.{Form}
 use Rattle.command.specs.declared.form.Form.the-variants.{Of, Wrong}
-use Rattle.command.specs.declared.kind.Asked.{Asked}
-use Rattle.command.specs.declared.kind.Asked.the-variants.{For, NoIns, NoParams}
+use Rattle.command.specs.declared.kind.Lookup.{Lookup}
+use Rattle.command.specs.declared.kind.Lookup.the-variants.{For, NoIns, NoParams}
 use Rattle.command.specs.declared.Fault.the-variants.{Form as FormFault, Class, Instruction, Parameters, Presence}
 use Rattle.command.specs.declared.Shape.{Shape}
 use Rattle.command.specs.declared.Shape.the-variants.{Command, Faulty}
@@ -16,14 +16,14 @@ use Rattle.command.specs.Form.{formOf}
 use Rattle.command.specs.Kind.{classFits, kindOf, present, wantsOf}
 
 -- INS; P1-P2; presence of data (from a up to e) and Le
-abbrev pub askedOf : Asked → ℕ → ℕ → ℕ → Le → Shape
-askedOf NoIns cla a e le = Faulty Instruction
-askedOf NoParams cla a e le = Faulty Parameters
-askedOf (For k) cla a e le = cond (present (wantsOf k) (ltb a e) le) (Command k (eqb cla 0x10) a e) (Faulty Presence)
+abbrev pub lookedUp : Lookup → ℕ → ℕ → ℕ → Le → Shape
+lookedUp NoIns cla a e le = Faulty Instruction
+lookedUp NoParams cla a e le = Faulty Parameters
+lookedUp (For k) cla a e le = cond (present (wantsOf k) (ltb a e) le) (Command k (eqb cla 0x10) a e) (Faulty Presence)
 
 -- CLA
 unfoldable pub headedOf : ℕ → ℕ → ℕ → ℕ → ℕ → ℕ → Le → Shape
-headedOf cla ins p1 p2 a e le = cond (not (classFits cla ins)) (Faulty Class) (askedOf (kindOf ins p1 p2) cla a e le)
+headedOf cla ins p1 p2 a e le = cond (not (classFits cla ins)) (Faulty Class) (lookedUp (kindOf ins p1 p2) cla a e le)
 
 -- a form has the four header bytes
 abbrev pub formed : Form → List ℕ → Shape

@@ -24,7 +24,7 @@ pub enum Kind {
 }
 
 // What a header asks for, or why it asks for nothing.
-pub enum Asked {
+pub enum Lookup {
     For(Kind),
     NoIns,
     NoParams,
@@ -52,56 +52,56 @@ pub(crate) fn class_fits(cla: u8, ins: u8) -> bool
 }
 
 // A command with one P1-P2.
-fn exact(p: u16, wanted: u16, kind: Kind) -> Asked
-    ensures { λ r. ⌜ r ≡ cond (eqb p wanted) (Asked.For kind) Asked.NoParams ⌝ }
+fn exact(p: u16, wanted: u16, kind: Kind) -> Lookup
+    ensures { λ r. ⌜ r ≡ cond (eqb p wanted) (Lookup.For kind) Lookup.NoParams ⌝ }
 {
     if p == wanted {
-        return Asked::For(kind);
+        return Lookup::For(kind);
     }
-    Asked::NoParams
+    Lookup::NoParams
 }
 
 // INS 22.
-fn manage(p: u16) -> Asked
+fn manage(p: u16) -> Lookup
     ensures { λ r. ⌜ r ≡ rowOf 0x22 p ⌝ }
 {
     if p == 0xC1A4 {
-        return Asked::For(Kind::ChoosePassword);
+        return Lookup::For(Kind::ChoosePassword);
     }
     if p == 0x81B6 {
-        return Asked::For(Kind::SelectIssuer);
+        return Lookup::For(Kind::SelectIssuer);
     }
     if p == 0x81A4 {
-        return Asked::For(Kind::Announce);
+        return Lookup::For(Kind::Announce);
     }
     exact(p, 0x41A4, Kind::ChooseChipKey)
 }
 
 // INS 2C.
-fn pin(p: u16) -> Asked
+fn pin(p: u16) -> Lookup
     ensures { λ r. ⌜ r ≡ rowOf 0x2C p ⌝ }
 {
     if p == 0x0203 {
-        return Asked::For(Kind::ChangePin);
+        return Lookup::For(Kind::ChangePin);
     }
     exact(p, 0x0303, Kind::Unblock)
 }
 
 // INS B0: P1 is 80+n, and any P2.
-fn read(p1: u8) -> Asked
+fn read(p1: u8) -> Lookup
     ensures { λ r. ⌜ r ≡ readOf p1 ⌝ }
 {
     if p1 < 0x81 {
-        return Asked::NoParams;
+        return Lookup::NoParams;
     }
     if 0x95 < p1 {
-        return Asked::NoParams;
+        return Lookup::NoParams;
     }
-    Asked::For(Kind::Read(p1 - 0x80))
+    Lookup::For(Kind::Read(p1 - 0x80))
 }
 
 // INS before P1-P2.
-pub(crate) fn kind_of(ins: u8, p1: u8, p2: u8) -> Asked
+pub(crate) fn kind_of(ins: u8, p1: u8, p2: u8) -> Lookup
     ensures { λ r. ⌜ r ≡ kindOf ins p1 p2 ⌝ }
 {
     let p = form::pair(p1, p2);
@@ -132,7 +132,7 @@ pub(crate) fn kind_of(ins: u8, p1: u8, p2: u8) -> Asked
     if ins == 0x04 {
         return exact(p, 0x1003, Kind::Deactivate);
     }
-    Asked::NoIns
+    Lookup::NoIns
 }
 
 // Data or none, then Le.

@@ -3,8 +3,8 @@ ghost use mathlib.Core.Path.{_≡_};
 ghost use Rattle.command.specs.Shape.{shapeOf, headedOf};
 use form::Form;
 use form::Le;
-use kind::Asked;
 use kind::Kind;
+use kind::Lookup;
 
 pub mod form;
 pub mod kind;
@@ -37,9 +37,9 @@ fn headed(cla: u8, ins: u8, p1: u8, p2: u8, start: usize, end: usize, le: Le) ->
         return Shape::Faulty(Fault::Class);
     }
     match kind::kind_of(ins, p1, p2) {
-        Asked::NoIns => Shape::Faulty(Fault::Instruction),
-        Asked::NoParams => Shape::Faulty(Fault::Parameters),
-        Asked::For(kind) => {
+        Lookup::NoIns => Shape::Faulty(Fault::Instruction),
+        Lookup::NoParams => Shape::Faulty(Fault::Parameters),
+        Lookup::For(kind) => {
             if kind::present(kind::wants_of(kind), start < end, le) {
                 return Shape::Command {
                     kind: kind,

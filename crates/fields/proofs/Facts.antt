@@ -9,7 +9,7 @@ use lib.Dec.{eqb}
 use lib.ListN.{length, drop, getD}
 use Rattle.laws.proofs.Bools.{of-both}
 use Rattle.objects.specs.Objects.{part, objectsIn, foundIn}
-use Rattle.objects.specs.Chain.{taken}
+use Rattle.objects.specs.Chain.{taken, any}
 use Rattle.objects.proofs.Chain.{taken-all, answered-all}
 use Rattle.strings.specs.Bytes.{allOf, longest}
 use Rattle.names.specs.Names.{isName, nameOf, noName, nameFits}
@@ -37,7 +37,7 @@ use Rattle.command.specs.declared.kind.Kind.{Kind}
 use Rattle.command.specs.declared.kind.Kind.the-variants.{ChoosePassword, General as KindGeneral, SelectIssuer, VerifyCertificate, Announce as KindAnnounce, Challenge as KindChallenge, ProveTerminal, ChooseChipKey as KindChip, Read as KindRead, ChangePin as KindPin, Unblock as KindUnblock, Activate as KindActivate, Deactivate as KindDeactivate}
 use Rattle.command.specs.declared.Shape.{Shape}
 use Rattle.command.specs.declared.Shape.the-variants.{Command, Faulty}
-use Rattle.fields.specs.Taking.{reading, lastly, any, isAll, sized, holds}
+use Rattle.fields.specs.Taking.{reading, lastly, isAll, sized, holds}
 use Rattle.fields.specs.Given.{only, bad, selecting, verifying, announcing}
 use Rattle.fields.specs.Choice.{pace, chosen, chosenBy, rightsThen, passwordThen, protocolThen, choiceOf}
 use Rattle.fields.specs.Held.{heldIn, generalOf}

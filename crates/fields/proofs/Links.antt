@@ -11,14 +11,14 @@ use lib.ListN.{length, drop, length-drop}
 use Rattle.laws.proofs.Bools.{true-false}
 use Rattle.laws.proofs.Lists.{from}
 use Rattle.objects.specs.Objects.{allowance, part, objects, objectsAt, foundIn}
-use Rattle.objects.specs.Chain.{counted, taken, takenBy}
+use Rattle.objects.specs.Chain.{counted, taken, takenBy, any}
 use Rattle.objects.specs.declared.Count.{Count}
 use Rattle.objects.specs.declared.Count.the-variants.{Objects}
 use Rattle.objects.specs.declared.Found.{Found}
 use Rattle.objects.specs.declared.Found.the-variants.{Content, Missing}
 use Rattle.objects.proofs.Sizes.{found-sizes}
 use Rattle.objects.proofs.Chain.{rest, answered-counted, counted-no, counted-over, none-counts, flat-counts, taken-is, flat-taken, nest-taken}
-use Rattle.fields.specs.Taking.{reading, lastly, any, sized, fitted, fittedBy, lastOf, there, holds}
+use Rattle.fields.specs.Taking.{reading, lastly, sized, fitted, fittedBy, lastOf, there, holds}
 
 -- ---- an object that was found and fits, and one that is the last
 

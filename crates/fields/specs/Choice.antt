@@ -6,13 +6,13 @@ use mathlib.Core.List.{List, [], _∷_}
 use mathlib.Core.Bool.{true, false, cond}
 use lib.ListN.{length, getD}
 use lib.Dec.{eqb}
-use Rattle.objects.specs.Chain.{taken}
+use Rattle.objects.specs.Chain.{taken, any}
 use Rattle.rights.specs.Rights.{granted}
 use Rattle.rights.specs.declared.Rights.{Rights}
 use Rattle.rights.specs.declared.Granted.{Granted}
 use Rattle.rights.specs.declared.Granted.the-variants.{These, NoRights}
 use Rattle.run.specs.declared.Choice.the-variants.{Mrz, Can, CanFor, Pin, PinFor, Puk}
-use Rattle.fields.specs.Taking.{reading, lastly, any, isAll, sized}
+use Rattle.fields.specs.Taking.{reading, lastly, isAll, sized}
 use Rattle.fields.specs.declared.asked.Ask.{Ask}
 use Rattle.fields.specs.declared.asked.Ask.the-variants.{Bad, Choose}
 

@@ -19,10 +19,7 @@ reading fail s k = answered fail (objectsIn s) k
 unfoldable pub lastly : {R : Type 0} → R → ℕ → Bool → (List ℕ → Bool) → List ℕ → (List ℕ → R) → ℕ → R
 lastly fail t nests fits s k = taken fail t nests fits s (λ c e rest n. cond (eqb (length rest) 0) (k c) fail)
 
--- contents: any; these bytes; so many bytes
-abbrev pub any : List ℕ → Bool
-any c = true
-
+-- contents: these bytes; so many bytes
 abbrev pub isAll : List ℕ → List ℕ → Bool
 isAll id c = eqbs c id
 

@@ -1,7 +1,7 @@
 -- Taking the expected objects of a list, in order, and counting all that the list holds. Assumes nothing: these are definitions.
 use Prim.Native.Nat.{ℕ}
 use mathlib.Core.List.{List}
-use mathlib.Core.Bool.{Bool, cond}
+use mathlib.Core.Bool.{Bool, true, cond}
 use lib.ListN.{drop}
 use Rattle.objects.specs.Objects.{foundIn, part, plus, within, allowance}
 use Rattle.objects.specs.declared.Count.{Count}
@@ -17,6 +17,10 @@ answered fail (Objects n) k = k n
 -- the same, where `used` objects stood before these: at most the allowance in all
 unfoldable pub counted : {R : Type 0} → R → ℕ → Count → (ℕ → R) → R
 counted fail used c k = answered fail (within allowance (plus used c)) k
+
+-- a content that is not judged
+abbrev pub any : List ℕ → Bool
+any c = true
 
 abbrev pub takenBy : {R : Type 0} → R → List ℕ → (List ℕ → Bool) → (List ℕ → ℕ → List ℕ → ℕ → R) → Found → ℕ → R
 takenBy fail s fits k Missing = λ n. fail

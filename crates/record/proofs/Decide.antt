@@ -22,7 +22,7 @@ use Rattle.command.specs.declared.Shape.the-variants.{Command}
 use Rattle.command.specs.Form.{formOf, afterHeader, bodyOf, extendedOf}
 use Rattle.command.specs.Kind.{kindOf}
 use Rattle.command.specs.Shape.{shapeOf, headedOf}
-use Rattle.command.specs.declared.kind.Asked.the-variants.{For}
+use Rattle.command.specs.declared.kind.Lookup.the-variants.{For}
 use Rattle.run.specs.Run.{isCan}
 use Rattle.event.specs.declared.Event.{Event}
 use Rattle.event.specs.declared.Event.the-variants.{ReadAllowed, Refused, Lost}

@@ -1,5 +1,5 @@
 -- The short records, computed on both sides. Assumes nothing.
-use Rattle.certificate.specs.Body.{unread, isKey, isSignature, extThen, lastThen, firstThen, rightsThen, ownThen, keyThen, issuerThen, versionThen, wholeOf, bodyOf, signedWhole, signedOf, keyObjects, isSigned}
+use Rattle.certificate.specs.Body.{unread, isPublicKey, isSignature, extThen, lastThen, firstThen, rightsThen, ownThen, keyThen, issuerThen, versionThen, wholeOf, bodyOf, signedWhole, signedOf, keyObjects, isSigned}
 use Rattle.command.specs.Form.{afterShort, afterLong, shortOf, longOf, extendedOf, bodyOf as bodyOf·Form·command, afterHeader, formOf}
 use Rattle.command.specs.Kind.{kindOf}
 use Rattle.command.specs.Shape.{headedOf, shapeOf}
