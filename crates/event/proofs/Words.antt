@@ -9,7 +9,7 @@ use Rattle.status.specs.declared.Word.the-variants.{Done, Tries}
 use Rattle.run.specs.declared.Choice.{Choice}
 use Rattle.run.specs.declared.Password.{Password}
 use Rattle.event.specs.declared.Event.{Event}
-use Rattle.run.specs.Run.{passwordOf, isPin}
+use Rattle.run.specs.Run.{passwordOf, isPin, tries}
 use Rattle.event.specs.Event.{chosenWord, wordOf}
 
 pub word-arm : (x d : Event) (r : Word) → x ≡ d → r ≡ wordOf d → r ≡ wordOf x
@@ -18,10 +18,10 @@ word-arm x d r e z = z ∙ ap wordOf (sym e)
 -- ---- the word of a choice
 
 module _ (c : Choice) (left : ℕ) (w : Password) (p : Bool) (e : w ≡ passwordOf c) (f : p ≡ isPin w) where
-  pub chosen-few : p && ltb left 3 ≡ true → Tries left ≡ chosenWord c left
+  pub chosen-few : p && ltb left tries ≡ true → Tries left ≡ chosenWord c left
   chosen-few h = rw (← e, ← f, h)
 
-  pub chosen-many : p && ltb left 3 ≡ false → Done ≡ chosenWord c left
+  pub chosen-many : p && ltb left tries ≡ false → Done ≡ chosenWord c left
   chosen-many h = rw (← e, ← f, h)
 
 pub ruleset words = (word-arm, chosen-few, chosen-many, needs)

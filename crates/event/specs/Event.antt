@@ -11,7 +11,7 @@ use Rattle.event.specs.declared.Loss.{Loss}
 use Rattle.event.specs.declared.Loss.the-variants.{Unprotected, Broken}
 use Rattle.event.specs.declared.Event.{Event}
 use Rattle.event.specs.declared.Event.the-variants.{Refused, Lost, Chosen, StepPassed, Opened, RunClosed, TrialLost, Selected, LinkTaken, DvTaken, TerminalTaken, Announced, Challenged, Proven, ProofLost, ChipKeyChosen, Authenticated, ChipLost, ReadAllowed, PinChanged, UnblockedByPuk, UnblockedByRight, Activated, Deactivated, NotPassed}
-use Rattle.run.specs.Run.{passwordOf, isPin}
+use Rattle.run.specs.Run.{passwordOf, isPin, tries}
 
 abbrev pub refusalWord : Refusal → Word
 refusalWord Length = W6700
@@ -33,7 +33,7 @@ lossWord Broken = W6988
 
 -- "PIN chosen with X tries left (X below 3)"
 abbrev pub chosenWord : Choice → ℕ → Word
-chosenWord c left = cond (isPin (passwordOf c) && ltb left 3) (Tries left) Done
+chosenWord c left = cond (isPin (passwordOf c) && ltb left tries) (Tries left) Done
 
 unfoldable pub wordOf : Event → Word
 wordOf (Refused r) = refusalWord r

@@ -101,7 +101,7 @@ fn chosen_word(c: Choice, left: u8) -> Word
     ensures { λ w. ⌜ w ≡ chosenWord c left ⌝ }
 {
     let pin = c.password().is_pin();
-    if pin & (left < 3) {
+    if pin & (left < run::TRIES) {
         return Word::Tries(left);
     }
     Word::Done

@@ -1,13 +1,12 @@
 -- When each command may come. Assumes nothing: these are definitions.
 use mathlib.Core.Bool.{Bool, true, false, not, _&&_, _||_}
-use lib.Dec.{eqb}
 use Rattle.command.specs.declared.kind.Kind.{Kind}
 use Rattle.command.specs.declared.kind.Kind.the-variants.{ChoosePassword, General, SelectIssuer, VerifyCertificate, Announce, Challenge, ProveTerminal, ChooseChipKey, Read, ChangePin, Unblock, Activate, Deactivate}
 use Rattle.run.specs.Run.{isLast}
 use Rattle.standing.specs.declared.Stage.{Stage}
 use Rattle.standing.specs.declared.Stage.the-variants.{Idle, Run, Announced as AtAnnounced, Challenged as AtChallenged, Proven as AtProven, ChipKeyChosen as AtChosen, Authenticated as AtAuthenticated}
 use Rattle.session.specs.declared.Session.{Session}
-use Rattle.standing.specs.Standing.{hasRights, hasTerminal, isSelected, rank, noRun, unproven}
+use Rattle.standing.specs.Standing.{hasRights, hasTerminal, isSelected, noRun, unproven, isAnnounced, isChallenged, isProven, isChosen}
 
 -- "CLA 10 for steps 1 to 3, 00 for the fourth (else 6985)"; the chip key's "86 0000, CLA 00 (else 6985)"
 abbrev pub generalMoment : Stage → Bool → Bool
@@ -30,11 +29,11 @@ momentOf z VerifyCertificate chained = hasRights (z .context .confirmed) && unpr
 -- "Needs a terminal in the chain, not proven"
 momentOf z Announce chained = hasTerminal (z .context .chain) && unproven (z .context .stage)
 -- "from announced or challenged"
-momentOf z Challenge chained = eqb (rank (z .context .stage)) 2 || eqb (rank (z .context .stage)) 3
+momentOf z Challenge chained = isAnnounced (z .context .stage) || isChallenged (z .context .stage)
 -- "from challenged"
-momentOf z ProveTerminal chained = eqb (rank (z .context .stage)) 3
+momentOf z ProveTerminal chained = isChallenged (z .context .stage)
 -- "when proven or chosen"
-momentOf z ChooseChipKey chained = eqb (rank (z .context .stage)) 4 || eqb (rank (z .context .stage)) 5
+momentOf z ChooseChipKey chained = isProven (z .context .stage) || isChosen (z .context .stage)
 momentOf z (Read n) chained = noRun (z .context .stage)
 momentOf z ChangePin chained = noRun (z .context .stage)
 momentOf z Unblock chained = noRun (z .context .stage)

@@ -21,7 +21,7 @@ use Rattle.roles.specs.declared.Role.the-variants.{Cvca, OfficialDv, OtherDv, T
 use Rattle.command.specs.declared.kind.Kind.{Kind}
 use Rattle.run.specs.declared.Choice.{Choice}
 use Rattle.run.specs.declared.Step.{Step}
-use Rattle.run.specs.Run.{passwordOf, isPin, isPuk, isLast}
+use Rattle.run.specs.Run.{passwordOf, isPin, isPuk, isLast, tries}
 use Rattle.event.specs.declared.Refusal.{Refusal}
 use Rattle.event.specs.declared.Refusal.the-variants.{Lacking, Moment, Data, NotFound, Outside}
 use Rattle.event.specs.declared.Loss.{Loss}
@@ -66,7 +66,7 @@ use Rattle.moment.specs.Moment.{momentOf}
 use Rattle.authorization.specs.Authorization.{authorization}
 use Rattle.bounds.specs.Bounds.{contextFits}
 use Rattle.token.specs.declared.state.Token.{Token}
-use Rattle.token.specs.State.{tries, uses, contextOf, chainOf}
+use Rattle.token.specs.State.{uses, contextOf, chainOf}
 use Rattle.token.specs.Limits.{selectable, inLimits}
 use Rattle.checks.specs.Checks.{managesPin, isFor, choosePlan, runPlan, chipPlan, generalPlan, announcePlan, readPlan, changePlan, unblockPlan, activePlan}
 use Rattle.certify.specs.Certify.{selectBy, selectPlan, repeats, late, underCourse, underPlan, verifyPlan}

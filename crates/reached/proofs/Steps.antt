@@ -14,7 +14,7 @@ use Rattle.points.specs.declared.Point.{Point}
 use Rattle.run.specs.declared.Choice.{Choice}
 use Rattle.run.specs.declared.Step.{Step}
 use Rattle.run.specs.declared.Step.the-variants.{Confirm}
-use Rattle.run.specs.Run.{passwordOf, isPin, isPuk, isLast}
+use Rattle.run.specs.Run.{passwordOf, isPin, isPuk, isLast, tries}
 use Rattle.event.specs.declared.Refusal.{Refusal}
 use Rattle.event.specs.declared.Event.{Event}
 use Rattle.event.specs.declared.Event.the-variants.{Refused, Lost, Chosen, StepPassed, Opened, RunClosed, TrialLost, Selected, LinkTaken, DvTaken, TerminalTaken, Announced, Challenged, Proven, ProofLost, ChipKeyChosen, Authenticated, ChipLost, ReadAllowed, PinChanged, UnblockedByPuk, UnblockedByRight, Activated, Deactivated, NotPassed}
@@ -56,7 +56,7 @@ use Rattle.moment.specs.Moment.{momentOf}
 use Rattle.authorization.specs.Authorization.{authorization}
 use Rattle.reply.specs.Reply.{room}
 use Rattle.token.specs.declared.state.Token.{Token}
-use Rattle.token.specs.State.{tries, contextOf, chainOf}
+use Rattle.token.specs.State.{contextOf, chainOf}
 use Rattle.token.specs.Limits.{inLimits}
 use Rattle.checks.specs.Checks.{managesPin, isFor, choosePlan, runPlan, chipPlan, generalPlan, announcePlan, readPlan, changePlan, unblockPlan, activePlan}
 use Rattle.certify.specs.Certify.{selectBy, selectPlan, repeats, late, underCourse, underPlan, verifyPlan}

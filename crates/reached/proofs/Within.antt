@@ -25,7 +25,7 @@ use Rattle.run.specs.declared.Choice.{Choice}
 use Rattle.run.specs.declared.Choice.the-variants.{Mrz, Can, CanFor, Pin, PinFor, Puk}
 use Rattle.run.specs.declared.Step.{Step}
 use Rattle.run.specs.declared.Step.the-variants.{Nonce}
-use Rattle.run.specs.Run.{passwordOf, rightsNamed, isPin, isCan, nextStep}
+use Rattle.run.specs.Run.{passwordOf, rightsNamed, isPin, isCan, nextStep, tries}
 use Rattle.event.specs.declared.Issuer.{Issuer}
 use Rattle.event.specs.declared.Event.{Event}
 use Rattle.course.specs.declared.Note.{Note}
@@ -54,7 +54,7 @@ use Rattle.bounds.specs.Bounds.{grantedFits, rootFits, dvFits, terminalFits, re
 use Rattle.token.specs.declared.state.Token.{Token}
 use Rattle.status.specs.declared.Intake.the-variants.{Accepted, Unfit}
 use Rattle.token.specs.declared.state.Personalised.{Personalised}
-use Rattle.token.specs.State.{tries, uses, withSession, withPin, resetOf, startOf, noToken, madeOf, contextOf, chainOf}
+use Rattle.token.specs.State.{uses, withSession, withPin, resetOf, startOf, noToken, madeOf, contextOf, chainOf}
 use Rattle.token.specs.Limits.{selectable}
 use Rattle.token.specs.After.{choiceTaken, staged, stepPassed, triesAfter, opened, runClosed, trialLost, issuerSelected, linkTaken, dvTaken, extended, terminalTaken, announced, unblocked, unblockedByPuk, activated, afterOf}
 use Rattle.token.specs.Step.{Stepped, happenedOf, nextOf, stepOf}

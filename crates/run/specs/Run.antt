@@ -62,3 +62,7 @@ nextStep Nonce = Map
 nextStep Map = Agree
 nextStep Agree = Confirm
 nextStep Confirm = Confirm
+
+-- "PIN counter 0..3 (start 3)"
+abbrev pub tries : ℕ
+tries = 3

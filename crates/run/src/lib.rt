@@ -4,6 +4,9 @@ ghost use Rattle.run.specs.Run.{passwordOf, rightsNamed, isPin, isCan, i
 use rights::Granted;
 use rights::Rights;
 
+// The tries of the PIN at the start, and the most there are.
+pub const TRIES: u8 = 3;
+
 pub enum Password {
     Mrz,
     Can,

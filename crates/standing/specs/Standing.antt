@@ -84,9 +84,21 @@ noRun s = leb 1 (rank s)
 abbrev pub unproven : Stage → Bool
 unproven s = noRun s && leb (rank s) 3
 
--- from announced on
-abbrev pub told : Stage → Bool
-told s = leb 2 (rank s)
+-- the stages from announced on, one by one, and all of them
+abbrev pub isAnnounced : Stage → Bool
+isAnnounced s = eqb (rank s) 2
+
+abbrev pub isChallenged : Stage → Bool
+isChallenged s = eqb (rank s) 3
+
+abbrev pub isProven : Stage → Bool
+isProven s = eqb (rank s) 4
+
+abbrev pub isChosen : Stage → Bool
+isChosen s = eqb (rank s) 5
 
 abbrev pub isAuthenticated : Stage → Bool
 isAuthenticated s = eqb (rank s) 6
+
+abbrev pub told : Stage → Bool
+told s = leb 2 (rank s)

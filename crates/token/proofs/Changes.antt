@@ -13,7 +13,7 @@ use Rattle.rights.specs.declared.Granted.the-variants.{NoRights}
 use Rattle.run.specs.declared.Choice.{Choice}
 use Rattle.run.specs.declared.Password.{Password}
 use Rattle.run.specs.declared.Step.{Step}
-use Rattle.run.specs.Run.{passwordOf, rightsNamed, nextStep}
+use Rattle.run.specs.Run.{passwordOf, rightsNamed, nextStep, tries}
 use Rattle.event.specs.declared.Issuer.{Issuer}
 use Rattle.event.specs.declared.Event.{Event}
 use Rattle.trust.specs.Trust.{linked}
@@ -27,7 +27,7 @@ use Rattle.session.specs.declared.Session.{Session}
 use Rattle.standing.specs.Standing.{noChain}
 use Rattle.session.specs.Session.{bareSession, rechosen, atStage, announcedWith, chainedTo, selecting}
 use Rattle.token.specs.declared.state.Token.{Token}
-use Rattle.token.specs.State.{tries, withSession, withPin, withPuk, withToday, withPoints}
+use Rattle.token.specs.State.{withSession, withPin, withPuk, withToday, withPoints}
 use Rattle.token.specs.After.{choiceTaken, staged, stepPassed, triesAfter, opened, runClosed, trialLost, issuerSelected, linkTaken, dvTaken, extended, terminalTaken, announced, unblockedByPuk, afterOf}
 
 pub extended-arm : (x d r : Reach) → x ≡ d → r ≡ extended d → r ≡ extended x

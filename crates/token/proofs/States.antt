@@ -16,7 +16,8 @@ use Rattle.bounds.specs.Bounds.{contextFits}
 use Rattle.token.specs.declared.state.Token.{Token}
 use Rattle.status.specs.declared.Intake.the-variants.{Accepted, Unfit}
 use Rattle.token.specs.declared.state.Personalised.{Personalised}
-use Rattle.token.specs.State.{tries, uses, withSession, resetOf, startOf, noToken, madeOf}
+use Rattle.token.specs.State.{uses, withSession, resetOf, startOf, noToken, madeOf}
+use Rattle.run.specs.Run.{tries}
 use Rattle.token.specs.Limits.{selectable, inLimits}
 
 pub start-is : (h : Points) (d : Day) (z : Session) → z ≡ noSession

@@ -9,7 +9,7 @@ use Rattle.rights.specs.declared.Rights.{Rights}
 use Rattle.rights.specs.declared.Granted.the-variants.{NoRights}
 use Rattle.run.specs.declared.Choice.{Choice}
 use Rattle.run.specs.declared.Step.{Step}
-use Rattle.run.specs.Run.{passwordOf, rightsNamed, isPin, nextStep}
+use Rattle.run.specs.Run.{passwordOf, rightsNamed, isPin, nextStep, tries}
 use Rattle.event.specs.declared.Issuer.{Issuer}
 use Rattle.event.specs.declared.Event.{Event}
 use Rattle.event.specs.declared.Event.the-variants.{Refused, Lost, Chosen, StepPassed, Opened as IsOpened, RunClosed, TrialLost, Selected, LinkTaken, DvTaken, TerminalTaken, Announced as IsAnnounced, Challenged as IsChallenged, Proven as IsProven, ProofLost, ChipKeyChosen as IsChosen, Authenticated as IsAuthenticated, ChipLost, ReadAllowed, PinChanged, UnblockedByPuk, UnblockedByRight, Activated, Deactivated, NotPassed}
@@ -22,7 +22,7 @@ use Rattle.standing.specs.declared.Stage.the-variants.{Idle, Run, Announced, Ch
 use Rattle.standing.specs.Standing.{noChain}
 use Rattle.session.specs.Session.{bareSession, rechosen, atStage, announcedWith, chainedTo, selecting}
 use Rattle.token.specs.declared.state.Token.{Token}
-use Rattle.token.specs.State.{tries, withSession, withPin, withPuk, withActive, withToday, withPoints, resetOf}
+use Rattle.token.specs.State.{withSession, withPin, withPuk, withActive, withToday, withPoints, resetOf}
 
 -- "opens a run and drops confirmed rights, chain, selection and stage, but not which password opened the session"
 unfoldable pub choiceTaken : Token → Choice → Token

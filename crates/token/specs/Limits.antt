@@ -9,7 +9,8 @@ use Rattle.standing.specs.declared.Selected.the-variants.{NoIssuer, Of}
 use Rattle.standing.specs.Standing.{hasDv}
 use Rattle.bounds.specs.Bounds.{contextFits}
 use Rattle.token.specs.declared.state.Token.{Token}
-use Rattle.token.specs.State.{tries, uses}
+use Rattle.token.specs.State.{uses}
+use Rattle.run.specs.Run.{tries}
 
 -- "Selectable: trust points and the chain's DV"
 abbrev pub selectable : Selected → Bool → Bool → Bool

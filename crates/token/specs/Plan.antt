@@ -24,7 +24,8 @@ use Rattle.moment.specs.Moment.{momentOf}
 use Rattle.checks.specs.Checks.{choosePlan, generalPlan, announcePlan, readPlan, changePlan, unblockPlan, activePlan}
 use Rattle.certify.specs.Certify.{selectPlan, verifyPlan}
 use Rattle.token.specs.declared.state.Token.{Token}
-use Rattle.token.specs.State.{tries, contextOf, chainOf}
+use Rattle.token.specs.State.{contextOf, chainOf}
+use Rattle.run.specs.Run.{tries}
 use Rattle.token.specs.Limits.{inLimits}
 
 -- data, then the command's own checks

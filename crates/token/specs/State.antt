@@ -7,6 +7,7 @@ use Rattle.days.specs.declared.Day.{Day}
 use Rattle.trust.specs.Trust.{onePoint, pointsFit}
 use Rattle.trust.specs.declared.Points.{Points}
 use Rattle.standing.specs.declared.Chain.{Chain}
+use Rattle.run.specs.Run.{tries}
 use Rattle.session.specs.declared.Context.{Context}
 use Rattle.session.specs.declared.Session.{Session}
 use Rattle.session.specs.Session.{noSession}
@@ -14,10 +15,7 @@ use Rattle.token.specs.declared.state.Token.{Token}
 use Rattle.status.specs.declared.Intake.the-variants.{Accepted, Unfit}
 use Rattle.token.specs.declared.state.Personalised.{Personalised}
 
--- "PIN counter 0..3 (start 3)", "PUK uses left 0..10 (start 10)"
-abbrev pub tries : ℕ
-tries = 3
-
+-- "PUK uses left 0..10 (start 10)"; the PIN's tries stand with its run
 abbrev pub uses : ℕ
 uses = 10
 

@@ -27,7 +27,7 @@ pub struct Personalised {
 
 impl Token {
     // The tries of the PIN and the uses of the PUK at the start, which are their limits.
-    pub const TRIES: u8 = 3;
+    pub const TRIES: u8 = run::TRIES;
 
     pub const USES: u8 = 10;
     // The longest command, the least reply buffer, the longest name and the longest announced key.
