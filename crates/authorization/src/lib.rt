@@ -6,6 +6,7 @@ use rights::Rights;
 use session::Context;
 use standing::Chain;
 use standing::Reach;
+use standing::Stage;
 
 // The rights of the trust point that the chain stands under.
 fn root(reach: Reach) -> Rights
@@ -50,7 +51,7 @@ pub fn authorization(context: Context) -> Rights
     let chain = context.chain;
     let stage = context.stage;
     let rights = shared(chain, granted);
-    if stage.rank() != 6 {
+    if stage.rank() != Stage::AUTHENTICATED {
         return Rights(0);
     }
     let can = opened.by_can();

@@ -19,9 +19,9 @@ use Rattle.standing.specs.declared.Chain.{Chain}
 use Rattle.standing.specs.declared.Stage.{Stage}
 use Rattle.standing.specs.declared.Stage.the-variants.{Idle, Run, Announced, Challenged, Proven, ChipKeyChosen, Authenticated}
 use Rattle.session.specs.declared.Context.{Context}
-use Rattle.standing.specs.Standing.{openedByPin, openedByCan, hasRights, hasDv, hasTerminal, told}
+use Rattle.standing.specs.Standing.{openedByPin, openedByCan, hasRights, hasDv, hasTerminal, fromAnnounced}
 
--- "a counter, name, date, rights value or stored length breaks this paper"
+-- "rights value": confirmed rights, and those that a running choice names, have at most 40 bits
 abbrev pub grantedFits : Granted → Bool
 grantedFits (These r) = rightsFit r
 grantedFits NoRights = true
@@ -57,13 +57,17 @@ stageFits Proven pin = true
 stageFits ChipKeyChosen pin = true
 stageFits Authenticated pin = true
 
--- "confirmed rights stand outside a session opened by PIN or CAN, a chain or a stage from announced on lacks them, or such a
--- stage lacks its terminal or announced key"
+abbrev pub implies : Bool → Bool → Bool
+implies a b = not a || b
+
 unfoldable pub groundFits : Context → Bool
 groundFits c =
-    (not (hasRights (c .confirmed)) || (openedByPin (c .opened) || openedByCan (c .opened)))
-    && (not (hasDv (c .chain)) || hasRights (c .confirmed))
-    && (not (told (c .stage)) || (hasRights (c .confirmed) && hasTerminal (c .chain) && keyStands (c .key)))
+    -- "confirmed rights stand outside a session opened by PIN or CAN"
+    implies (hasRights (c .confirmed)) (openedByPin (c .opened) || openedByCan (c .opened))
+    -- "a chain .. lacks them"
+    && implies (hasDv (c .chain)) (hasRights (c .confirmed))
+    -- "or a stage from announced on lacks them, or such a stage lacks its terminal or announced key"
+    && implies (fromAnnounced (c .stage)) (hasRights (c .confirmed) && hasTerminal (c .chain) && keyStands (c .key))
 
 unfoldable pub contextFits : Context → ℕ → Bool
 contextFits c pin = grantedFits (c .confirmed) && chainFits (c .chain) && stageFits (c .stage) pin && keyFits (c .key) && groundFits c

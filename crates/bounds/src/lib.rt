@@ -35,8 +35,8 @@ fn dv_fits(dv: Point) -> bool
 {
     let rights = dv.rights;
     let fits = dv.fits();
-    let deputy = rights.role().is_dv();
-    fits & deputy
+    let is_dv = rights.role().is_dv();
+    fits & is_dv
 }
 
 fn terminal_fits(terminal: Point) -> bool
@@ -44,8 +44,8 @@ fn terminal_fits(terminal: Point) -> bool
 {
     let rights = terminal.rights;
     let fits = terminal.fits();
-    let last = rights.role().is_terminal();
-    fits & last
+    let is_terminal = rights.role().is_terminal();
+    fits & is_terminal
 }
 
 // What stands in a chain is good; what does not stand there is not judged.
@@ -97,11 +97,11 @@ fn ground_fits(c: Context) -> bool
     let rights = has_rights(confirmed);
     let pin = opened.by_pin();
     let can = opened.by_can();
-    let told = 2 <= stage.rank();
+    let on = Stage::ANNOUNCED <= stage.rank();
     let dv = chain.has_dv();
     let terminal = chain.has_terminal();
     let announced = key.stands();
-    (!rights | (pin | can)) & (!dv | rights) & (!told | (rights & terminal & announced))
+    (!rights | (pin | can)) & (!dv | rights) & (!on | (rights & terminal & announced))
 }
 
 // Whether a session's parts are within their limits, with this PIN counter.

@@ -14,7 +14,7 @@ use Rattle.rights.specs.declared.Rights.{Rights}
 use Rattle.run.specs.declared.Choice.{Choice}
 use Rattle.run.specs.declared.Password.{Password}
 use Rattle.run.specs.declared.Step.{Step}
-use Rattle.run.specs.Run.{passwordOf, isPin, isPuk, stepNumber}
+use Rattle.run.specs.Run.{passwordOf, isPin, isPuk, stepNumber, tries}
 use Rattle.event.specs.declared.Refusal.the-variants.{Lacking, Data, NotFound}
 use Rattle.event.specs.declared.Event.{Event}
 use Rattle.event.specs.declared.Event.the-variants.{Refused, Announced as IsAnnounced, Authenticated as IsAuthenticated, ChipLost, ReadAllowed, PinChanged, NotPassed}
@@ -61,8 +61,8 @@ module _ (k : Key) (x : Content) where
   unfolding chipPlan
   chip-good n e f = rw (e, f)
 
-pub general-arm : (z : Context) (pin : ℕ) (x : Content) (s d : Stage) (r : Plan) → s ≡ d → r ≡ generalPlan z pin d x → r ≡ generalPlan z pin s x
-general-arm z pin x s d r e f = f ∙ ap (λ (y : Stage). generalPlan z pin y x) (sym e)
+pub general-arm : (k : Key) (pin : ℕ) (x : Content) (s d : Stage) (r : Plan) → s ≡ d → r ≡ generalPlan k pin d x → r ≡ generalPlan k pin s x
+general-arm k pin x s d r e f = f ∙ ap (λ (y : Stage). generalPlan k pin y x) (sym e)
 
 module _ (t n : Name) (k : Key) (b : Bool) (e : b ≡ sameName n t) where
   pub announce-good : (p : Point) → b ≡ true → p ≡ noPoint → _≡_ {A = Plan} (record { course = Settled IsAnnounced; point = p; key = k }) (announcePlan t n k)
@@ -88,9 +88,9 @@ module _ (x : Context) (a : Rights) (f : a ≡ authorization x) where
       unfolding changePlan
       change-bad h z = rw (← f, ← g, ← e, h) z
 
-    pub unblock-is : (used full p : Bool) (e : Event) → p ≡ openedByPuk (x .opened) → e ≡ unblockLadder p m used full → r ≡ settledBy e → r ≡ unblockPlan x used full
+    pub unblock-is : (pin puk : ℕ) (p : Bool) (e : Event) → p ≡ openedByPuk (x .opened) → e ≡ unblockLadder p m (eqb puk 0) (eqb pin tries) → r ≡ settledBy e → r ≡ unblockPlan x pin puk
     unfolding unblockPlan
-    unblock-is used full p e h i z = rw (← f, ← g, ← h, ← i) z
+    unblock-is pin puk p e h i z = rw (← f, ← g, ← h, ← i) z
 
     pub active-is : (d e : Event) → e ≡ grounded m d → r ≡ settledBy e → r ≡ activePlan x d
     unfolding activePlan

@@ -1,4 +1,4 @@
--- "Commands": the checks of each after moment and data, certificates apart, over the parts of the token that they look at. Assumes nothing: these are definitions.
+-- "Commands": the checks of each after moment and the data's form, certificates apart, over the parts of the token that they look at. Assumes nothing: these are definitions.
 use Prim.Native.Nat.{ℕ}
 use mathlib.Core.Bool.{Bool, false, cond, not, _&&_, _||_}
 use lib.Dec.{eqb}
@@ -9,7 +9,7 @@ use Rattle.names.specs.declared.Name.{Name}
 use Rattle.keys.specs.declared.Key.{Key}
 use Rattle.run.specs.declared.Choice.{Choice}
 use Rattle.run.specs.declared.Step.{Step}
-use Rattle.run.specs.Run.{passwordOf, isPin, isPuk, stepNumber}
+use Rattle.run.specs.Run.{passwordOf, isPin, isPuk, stepNumber, tries}
 use Rattle.event.specs.declared.Refusal.the-variants.{Lacking, Moment, Data, NotFound}
 use Rattle.event.specs.declared.Event.{Event}
 use Rattle.event.specs.declared.Event.the-variants.{Refused, Announced as IsAnnounced, Authenticated as IsAuthenticated, ChipLost, ReadAllowed, PinChanged, NotPassed}
@@ -65,14 +65,15 @@ chipPlan announced (StepData q) = settledBy (Refused Data)
 chipPlan announced Chip = record { course = Awaits ChipKey IsAuthenticated ChipLost; point = noPoint; key = announced }
 
 -- 86 is a run step in a run, and the chip key's when one is chosen
-unfoldable pub generalPlan : Context → ℕ → Stage → Content → Plan
-generalPlan z pin (Run c p) x = runPlan pin c p x
-generalPlan z pin ChipKeyChosen x = chipPlan (z .key) x
-generalPlan z pin Idle x = settledBy (Refused Moment)
-generalPlan z pin Announced x = settledBy (Refused Moment)
-generalPlan z pin Challenged x = settledBy (Refused Moment)
-generalPlan z pin Proven x = settledBy (Refused Moment)
-generalPlan z pin Authenticated x = settledBy (Refused Moment)
+unfoldable pub generalPlan : Key → ℕ → Stage → Content → Plan
+generalPlan announced pin (Run c p) x = runPlan pin c p x
+generalPlan announced pin ChipKeyChosen x = chipPlan announced x
+-- the moment has refused these before
+generalPlan announced pin Idle x = settledBy (Refused Moment)
+generalPlan announced pin Announced x = settledBy (Refused Moment)
+generalPlan announced pin Challenged x = settledBy (Refused Moment)
+generalPlan announced pin Proven x = settledBy (Refused Moment)
+generalPlan announced pin Authenticated x = settledBy (Refused Moment)
 
 -- ---- Announce: "83 the chain's terminal (6A88)"
 
@@ -91,8 +92,8 @@ changePlan z active = cond ((openedByPin (z .opened) && active) || managesPin z)
 
 -- ---- Unblock: "opened by PUK (takes one use; none left 6983), or bit 5. Counter 3 is 6985, after 6983"
 
-unfoldable pub unblockPlan : Context → Bool → Bool → Plan
-unblockPlan z used full = settledBy (unblockLadder (openedByPuk (z .opened)) (managesPin z) used full)
+unfoldable pub unblockPlan : Context → ℕ → ℕ → Plan
+unblockPlan z pin puk = settledBy (unblockLadder (openedByPuk (z .opened)) (managesPin z) (eqb puk 0) (eqb pin tries))
 
 -- ---- Activate, deactivate: "bit 5; repeating is 9000"
 

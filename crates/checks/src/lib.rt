@@ -16,6 +16,7 @@ use names::Name;
 use points::Point;
 use run::Choice;
 use run::Step;
+use run::TRIES;
 use session::Context;
 use standing::Opened;
 use standing::Stage;
@@ -84,7 +85,7 @@ fn chip_key(key: Key, content: Content) -> Plan
 }
 
 pub fn general(context: Context, pin: u8, content: Content) -> Plan
-    ensures { λ r. ⌜ r ≡ generalPlan context pin (context .stage) content ⌝ }
+    ensures { λ r. ⌜ r ≡ generalPlan (context .key) pin (context .stage) content ⌝ }
 {
     let stage = context.stage;
     let key = context.key;
@@ -134,15 +135,14 @@ pub fn change_pin(context: Context, active: bool) -> Plan
     Plan::settled(Event::Refused(Refusal::Lacking))
 }
 
-// `used`: the PUK has no use left; `full`: the counter is 3.
-pub fn unblock(context: Context, used: bool, full: bool) -> Plan
-    ensures { λ r. ⌜ r ≡ unblockPlan context used full ⌝ }
+pub fn unblock(context: Context, pin: u8, puk: u8) -> Plan
+    ensures { λ r. ⌜ r ≡ unblockPlan context pin puk ⌝ }
 {
     let opened = context.opened;
     let rights = authorization(context);
     let right = rights.manages_pin();
-    let puk = opened.by_puk();
-    Plan::settled(order::unblock(puk, right, used, full))
+    let own = opened.by_puk();
+    Plan::settled(order::unblock(own, right, puk == 0, pin == TRIES))
 }
 
 // Activate and deactivate.

@@ -1,7 +1,7 @@
 -- The moment of each kind, over plain values. Assumes nothing.
 use borrow.Author.Needs.{needs}
 use Prim.Native.Nat.{ℕ}
-use mathlib.Core.Bool.{Bool, true, not, _&&_, _||_}
+use mathlib.Core.Bool.{Bool, true, false, not, _&&_, _||_}
 use mathlib.Core.Path.{_≡_}
 use lib.Dec.{leb, eqb}
 use Rattle.command.specs.declared.kind.Kind.{Kind}
@@ -15,8 +15,12 @@ use Rattle.session.specs.declared.Session.{Session}
 use Rattle.standing.specs.Standing.{hasRights, hasTerminal, isSelected, rank}
 use Rattle.moment.specs.Moment.{generalMoment, momentOf}
 
-pub run-moment : (s : Stage) (ch : Bool) (c : Choice) (p : Step) (l : Bool) → s ≡ Run c p → l ≡ isLast p → (l && not ch) || (not l && ch) ≡ generalMoment s ch
-run-moment s ch c p l e f = rw (e, f)
+module _ (s : Stage) (ch : Bool) (c : Choice) (p : Step) (l : Bool) (e : s ≡ Run c p) (f : l ≡ isLast p) where
+  pub run-fourth : l ≡ true → not ch ≡ generalMoment s ch
+  run-fourth h = rw (e, ← f, h)
+
+  pub run-earlier : l ≡ false → ch ≡ generalMoment s ch
+  run-earlier h = rw (e, ← f, h)
 
 module _ (z : Session) (ch : Bool) (x : Kind) where
   pub at-choose : x ≡ ChoosePassword → true ≡ momentOf z x ch
@@ -73,4 +77,4 @@ module _ (z : Session) (ch : Bool) (x : Kind) where
     unfolding momentOf
     at-deactivate e = rw (e, f)
 
-pub ruleset moments = (run-moment, at-choose, at-general, at-select, at-verify, at-announce, at-challenge, at-prove, at-chip, at-read, at-change, at-unblock, at-activate, at-deactivate, needs)
+pub ruleset moments = (run-fourth, run-earlier, at-choose, at-general, at-select, at-verify, at-announce, at-challenge, at-prove, at-chip, at-read, at-change, at-unblock, at-activate, at-deactivate, needs)

@@ -1,5 +1,5 @@
 -- When each command may come. Assumes nothing: these are definitions.
-use mathlib.Core.Bool.{Bool, true, false, not, _&&_, _||_}
+use mathlib.Core.Bool.{Bool, true, false, cond, not, _&&_, _||_}
 use Rattle.command.specs.declared.kind.Kind.{Kind}
 use Rattle.command.specs.declared.kind.Kind.the-variants.{ChoosePassword, General, SelectIssuer, VerifyCertificate, Announce, Challenge, ProveTerminal, ChooseChipKey, Read, ChangePin, Unblock, Activate, Deactivate}
 use Rattle.run.specs.Run.{isLast}
@@ -10,7 +10,7 @@ use Rattle.standing.specs.Standing.{hasRights, hasTerminal, isSelected, noRun, 
 
 -- "CLA 10 for steps 1 to 3, 00 for the fourth (else 6985)"; the chip key's "86 0000, CLA 00 (else 6985)"
 abbrev pub generalMoment : Stage → Bool → Bool
-generalMoment (Run c p) chained = (isLast p && not chained) || (not (isLast p) && chained)
+generalMoment (Run c p) chained = cond (isLast p) (not chained) chained
 generalMoment Idle chained = false
 generalMoment AtAnnounced chained = false
 generalMoment AtChallenged chained = false

@@ -1,6 +1,5 @@
 // The moment of each command: over the session, the command's kind and its CLA, before any data is judged.
 ghost use mathlib.Core.Path.{_≡_};
-ghost use Rattle.standing.specs.Standing.{rank};
 ghost use Rattle.moment.specs.Moment.{generalMoment, momentOf};
 use command::kind::Kind;
 use session::Session;
@@ -13,8 +12,10 @@ fn general(stage: Stage, chained: bool) -> bool
 {
     match stage {
         Stage::Run(_, step) => {
-            let last = step.is_last();
-            (last & !chained) | (!last & chained)
+            if step.is_last() {
+                return !chained;
+            }
+            chained
         }
         Stage::Idle => false,
         Stage::Announced => false,
@@ -34,8 +35,8 @@ pub fn moment(session: Session, kind: Kind, chained: bool) -> bool
     let stage = c.stage;
     let selected = session.selected;
     let rank = stage.rank();
-    let idle = 1 <= rank;
-    let unproven = idle & (rank <= 3);
+    let no_run = Stage::IDLE <= rank;
+    let unproven = no_run & (rank <= Stage::CHALLENGED);
     let rights = has_rights(confirmed);
     match kind {
         Kind::ChoosePassword => true,
@@ -43,13 +44,13 @@ pub fn moment(session: Session, kind: Kind, chained: bool) -> bool
         Kind::SelectIssuer => rights & unproven,
         Kind::VerifyCertificate => rights & unproven & selected.stands(),
         Kind::Announce => chain.has_terminal() & unproven,
-        Kind::Challenge => (rank == 2) | (rank == 3),
-        Kind::ProveTerminal => rank == 3,
-        Kind::ChooseChipKey => (rank == 4) | (rank == 5),
-        Kind::Read(_) => idle,
-        Kind::ChangePin => idle,
-        Kind::Unblock => idle,
-        Kind::Activate => idle,
-        Kind::Deactivate => idle,
+        Kind::Challenge => (rank == Stage::ANNOUNCED) | (rank == Stage::CHALLENGED),
+        Kind::ProveTerminal => rank == Stage::CHALLENGED,
+        Kind::ChooseChipKey => (rank == Stage::PROVEN) | (rank == Stage::CHOSEN),
+        Kind::Read(_) => no_run,
+        Kind::ChangePin => no_run,
+        Kind::Unblock => no_run,
+        Kind::Activate => no_run,
+        Kind::Deactivate => no_run,
     }
 }

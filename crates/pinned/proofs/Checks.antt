@@ -21,7 +21,7 @@ use Rattle.certify.specs.Certify.{selectPlan, verifyPlan}
 pub choose-pinned : (pin puk : ℕ) (active : Bool) (opened : Opened) (c : Choice) → Pinned Plan (choosePlan pin active puk opened c)
 choose-pinned pin puk active opened c = pinned _
 
-pub general-pinned : (z : Context) (pin : ℕ) (x : Content) → Pinned Plan (generalPlan z pin (z .stage) x)
+pub general-pinned : (z : Context) (pin : ℕ) (x : Content) → Pinned Plan (generalPlan (z .key) pin (z .stage) x)
 general-pinned z pin x = pinned _
 
 pub announce-pinned : (terminal n : Name) (k : Key) → Pinned Plan (announcePlan terminal n k)
@@ -33,8 +33,8 @@ read-pinned z n = pinned _
 pub change-pin-pinned : (z : Context) (active : Bool) → Pinned Plan (changePlan z active)
 change-pin-pinned z active = pinned _
 
-pub unblock-pinned : (z : Context) (used full : Bool) → Pinned Plan (unblockPlan z used full)
-unblock-pinned z used full = pinned _
+pub unblock-pinned : (z : Context) (pin puk : ℕ) → Pinned Plan (unblockPlan z pin puk)
+unblock-pinned z pin puk = pinned _
 
 pub set-active-pinned : (z : Context) (done : Event) → Pinned Plan (activePlan z done)
 set-active-pinned z done = pinned _

@@ -1,4 +1,4 @@
--- What an event tells of the token and the command that it comes from: the one walk down the plan. Assumes nothing.
+-- What an event tells of the token and the command that it comes from: and the one walk down the plan that shows it. Assumes nothing.
 use Prim.Native.Nat.{ℕ, _-_}
 use mathlib.Core.Bool.{Bool, true, false, cond, not, _&&_, _||_}
 use mathlib.Core.Path.{_≡_, refl, subst}
@@ -61,7 +61,7 @@ use Rattle.standing.specs.declared.Selected.{Selected}
 use Rattle.standing.specs.declared.Selected.the-variants.{NoIssuer, Of as Chose}
 use Rattle.standing.specs.declared.Stage.{Stage}
 use Rattle.standing.specs.declared.Stage.the-variants.{Idle, Run, Announced, Challenged, Proven, ChipKeyChosen, Authenticated}
-use Rattle.standing.specs.Standing.{isOpen, openedByPin, openedByCan, openedByPuk, hasRights, hasDv, hasTerminal, isSelected, rank, unproven}
+use Rattle.standing.specs.Standing.{isOpen, openedByPin, openedByCan, openedByPuk, hasRights, hasDv, hasTerminal, isSelected, unproven, isAnnounced, isChallenged, isProven, isChosen}
 use Rattle.moment.specs.Moment.{momentOf}
 use Rattle.authorization.specs.Authorization.{authorization}
 use Rattle.bounds.specs.Bounds.{contextFits}
@@ -102,20 +102,20 @@ pub data Fits (t : Token) (a : Asked) : Event → Point → Key → Type 0 where
   is-chosen : {m : Kind} {ch : Bool} {c : Choice} {p : Point} {k : Key} → a .request ≡ Asks m ch (Choose c) → isPin (passwordOf c) && eqb (t .pin) 0 ≡ false → Fits t a (Chosen c (t .pin)) p k
   is-stepped : {m : Kind} {ch : Bool} {x : Step} {c : Choice} {s : Step} {p : Point} {k : Key} → a .request ≡ Asks m ch (General (StepData x)) → contextOf t .stage ≡ Run c s → isLast s ≡ false → Fits t a (StepPassed c s) p k
   is-opened : {m : Kind} {ch : Bool} {x : Step} {c : Choice} {s : Step} {p : Point} {k : Key} → a .request ≡ Asks m ch (General (StepData x)) → contextOf t .stage ≡ Run c s → isLast s ≡ true → Fits t a (IsOpened c) p k
-  is-closed : {m : Kind} {ch : Bool} {x : Step} {c : Choice} {s : Step} {p : Point} {k : Key} → a .request ≡ Asks m ch (General (StepData x)) → contextOf t .stage ≡ Run c s → Fits t a RunClosed p k
-  is-fell : {m : Kind} {ch : Bool} {x : Step} {c : Choice} {s : Step} {p : Point} {k : Key} → a .request ≡ Asks m ch (General (StepData x)) → contextOf t .stage ≡ Run c s → Fits t a (TrialLost (t .pin - 1)) p k
+  is-run-closed : {m : Kind} {ch : Bool} {x : Step} {c : Choice} {s : Step} {p : Point} {k : Key} → a .request ≡ Asks m ch (General (StepData x)) → contextOf t .stage ≡ Run c s → Fits t a RunClosed p k
+  is-trial-lost : {m : Kind} {ch : Bool} {x : Step} {c : Choice} {s : Step} {p : Point} {k : Key} → a .request ≡ Asks m ch (General (StepData x)) → contextOf t .stage ≡ Run c s → Fits t a (TrialLost (t .pin - 1)) p k
   is-selected : {m : Kind} {ch : Bool} {i : Issuer} {p : Point} {k : Key} → a .request ≡ Asks m ch Select → Selects t i → Fits t a (IsSelected i) p k
-  is-linked : (n : ℕ) {m : Kind} {ch : Bool} {k : Key} → a .request ≡ Asks m ch Verify → certifying t ≡ true → roleOf (a .point .rights) ≡ Cvca → knows (t .points) (a .point .name) ≡ false
+  is-link-taken : (n : ℕ) {m : Kind} {ch : Bool} {k : Key} → a .request ≡ Asks m ch Verify → certifying t ≡ true → roleOf (a .point .rights) ≡ Cvca → knows (t .points) (a .point .name) ≡ false
       → Fits t a LinkTaken (withKey (a .point) n) k
-  is-deputed : (n : ℕ) {m : Kind} {ch : Bool} {h : Point} {k : Key} → a .request ≡ Asks m ch Verify → certifying t ≡ true → isDv (roleOf (a .point .rights)) ≡ true → knows (t .points) (a .point .name) ≡ false
+  is-dv-taken : (n : ℕ) {m : Kind} {ch : Bool} {h : Point} {k : Key} → a .request ≡ Asks m ch Verify → certifying t ≡ true → isDv (roleOf (a .point .rights)) ≡ true → knows (t .points) (a .point .name) ≡ false
       → Holds (t .points) h → sameName (a .name) (h .name) ≡ true → Fits t a (DvTaken (h .rights)) (withKey (a .point) n) k
-  is-completed : (n : ℕ) {m : Kind} {ch : Bool} {k : Key} → a .request ≡ Asks m ch Verify → certifying t ≡ true → roleOf (a .point .rights) ≡ Terminal → hasDv (chainOf t) ≡ true
+  is-terminal-taken : (n : ℕ) {m : Kind} {ch : Bool} {k : Key} → a .request ≡ Asks m ch Verify → certifying t ≡ true → roleOf (a .point .rights) ≡ Terminal → hasDv (chainOf t) ≡ true
       → sameName (a .name) (chainOf t .dv .name) ≡ true → Fits t a TerminalTaken (withKey (a .point) n) k
   is-announced : {m : Kind} {ch : Bool} {p : Point} → a .request ≡ Asks m ch Announce → hasTerminal (chainOf t) && unproven (contextOf t .stage) ≡ true → Fits t a IsAnnounced p (a .key)
-  is-challenged : {m : Kind} {ch : Bool} {p : Point} {k : Key} → a .request ≡ Asks m ch Challenge → eqb (rank (contextOf t .stage)) 2 || eqb (rank (contextOf t .stage)) 3 ≡ true → Fits t a IsChallenged p k
-  is-proven : {m : Kind} {ch : Bool} {p : Point} {k : Key} → a .request ≡ Asks m ch Prove → eqb (rank (contextOf t .stage)) 3 ≡ true → Fits t a IsProven p k
-  is-disproved : {m : Kind} {ch : Bool} {p : Point} {k : Key} → a .request ≡ Asks m ch Prove → eqb (rank (contextOf t .stage)) 3 ≡ true → Fits t a ProofLost p k
-  is-chip : {m : Kind} {ch : Bool} {p : Point} {k : Key} → a .request ≡ Asks m ch ChooseChipKey → eqb (rank (contextOf t .stage)) 4 || eqb (rank (contextOf t .stage)) 5 ≡ true → Fits t a IsChosen p k
+  is-challenged : {m : Kind} {ch : Bool} {p : Point} {k : Key} → a .request ≡ Asks m ch Challenge → isAnnounced (contextOf t .stage) || isChallenged (contextOf t .stage) ≡ true → Fits t a IsChallenged p k
+  is-proven : {m : Kind} {ch : Bool} {p : Point} {k : Key} → a .request ≡ Asks m ch Prove → isChallenged (contextOf t .stage) ≡ true → Fits t a IsProven p k
+  is-proof-lost : {m : Kind} {ch : Bool} {p : Point} {k : Key} → a .request ≡ Asks m ch Prove → isChallenged (contextOf t .stage) ≡ true → Fits t a ProofLost p k
+  is-chip-key-chosen : {m : Kind} {ch : Bool} {p : Point} {k : Key} → a .request ≡ Asks m ch ChooseChipKey → isProven (contextOf t .stage) || isChosen (contextOf t .stage) ≡ true → Fits t a IsChosen p k
   is-authenticated : {m : Kind} {ch : Bool} {p : Point} {k : Key} → a .request ≡ Asks m ch (General Chip) → contextOf t .stage ≡ ChipKeyChosen → Fits t a IsAuthenticated p k
   is-chip-lost : {m : Kind} {ch : Bool} {p : Point} {k : Key} → a .request ≡ Asks m ch (General Chip) → contextOf t .stage ≡ ChipKeyChosen → Fits t a ChipLost p k
   not-passed : {m : Kind} {ch : Bool} {x : Ask} {p : Point} {k : Key} → a .request ≡ Asks m ch x → Quiet x → Fits t a NotPassed p k
@@ -128,7 +128,7 @@ pub data Fits (t : Token) (a : Asked) : Event → Point → Key → Type 0 where
 
 -- ---- a state within its limits, rung by rung
 
-pub record Lim (t : Token) : Type 0 where
+pub record InLimits (t : Token) : Type 0 where
   pub pin : leb (t .pin) tries ≡ true
   pub puk : leb (t .puk) uses ≡ true
   pub today : dayFits (t .today) ≡ true
@@ -137,7 +137,7 @@ pub record Lim (t : Token) : Type 0 where
   pub dv : not (hasDv (chainOf t) && knows (t .points) (chainOf t .dv .name)) ≡ true
   pub chosen : selectable (t .session .selected) (t .points .two) (hasDv (chainOf t)) ≡ true
 
-pub limits-of : (t : Token) → inLimits t ≡ true → Lim t
+pub limits-of : (t : Token) → inLimits t ≡ true → InLimits t
 unfolding inLimits
 limits-of t h =
     let k =
@@ -145,15 +145,53 @@ limits-of t h =
     (not (hasDv (chainOf t) && knows (t .points) (chainOf t .dv .name))) (selectable (t .session .selected) (t .points .two) (hasDv (chainOf t))) h in
     record { pin = k .0; puk = k .1; today = k .2; points = k .3; context = k .4; dv = k .5; chosen = k .6 }
 
-pub in-limits : {t : Token} → Lim t → inLimits t ≡ true
+pub in-limits : {t : Token} → InLimits t → inLimits t ≡ true
 unfolding inLimits
 in-limits l = cc
 
 -- ---- the walk down the plan
 
+-- the events that need a verdict
+abbrev pub wantsVerdict : Event → Bool
+wantsVerdict (Refused w) = false
+wantsVerdict (Lost l) = false
+wantsVerdict (Chosen c n) = false
+wantsVerdict (StepPassed c p) = true
+wantsVerdict (IsOpened c) = true
+wantsVerdict RunClosed = false
+wantsVerdict (TrialLost n) = false
+wantsVerdict (IsSelected i) = false
+wantsVerdict LinkTaken = true
+wantsVerdict (DvTaken r) = true
+wantsVerdict TerminalTaken = true
+wantsVerdict IsAnnounced = false
+wantsVerdict IsChallenged = true
+wantsVerdict IsProven = true
+wantsVerdict ProofLost = false
+wantsVerdict IsChosen = false
+wantsVerdict IsAuthenticated = true
+wantsVerdict ChipLost = false
+wantsVerdict ReadAllowed = false
+wantsVerdict PinChanged = true
+wantsVerdict UnblockedByPuk = false
+wantsVerdict UnblockedByRight = false
+wantsVerdict Activated = false
+wantsVerdict Deactivated = false
+wantsVerdict NotPassed = false
+
+-- what comes without a verdict needs none
 data Course·Fits (t : Token) (a : Asked) (p : Point) (k : Key) : Course → Type 0 where
-  at-once : {e : Event} → Fits t a e p k → Course·Fits t a p k (Settled e)
-  in-time : {j : Job} {x y : Event} → ((n : ℕ) → Fits t a x (takenIn j p n) k) → Fits t a y p k → Course·Fits t a p k (Awaits j x y)
+  at-once : {e : Event} → Fits t a e p k → wantsVerdict e ≡ false → Course·Fits t a p k (Settled e)
+  in-time : {j : Job} {x y : Event} → ((n : ℕ) → Fits t a x (takenIn j p n) k) → Fits t a y p k → wantsVerdict y ≡ false → Course·Fits t a p k (Awaits j x y)
+
+-- what a course gives without a good result
+abbrev pub without : Course → Event
+without (Settled e) = e
+without (Awaits j x y) = y
+
+modest : {t : Token} {a : Asked} {p : Point} {k : Key} {c : Course} → Course·Fits t a p k c → wantsVerdict (without c) ≡ false
+modest (at-once f w) = w
+modest (in-time f g w) = w
 
 abbrev Plan·Fits : Token → Asked → Plan → Type 0
 Plan·Fits t a q = Course·Fits t a (q .point) (q .key) (q .course)
@@ -164,19 +202,25 @@ rung P true f g = f refl
 rung P false f g = g refl
 
 module _ (t : Token) (a : Asked) where
-  once : (e : Event) → Fits t a e noPoint noKey → Plan·Fits t a (settledBy e)
-  unfolding settledBy
-  once e f = at-once f
-
-  refuses : (w : Refusal) → Plan·Fits t a (settledBy (Refused w))
-  refuses w = once (Refused w) is-refused
-
-  waits : (j : Job) (x y : Event) → ((n : ℕ) → Fits t a x (takenIn j noPoint n) noKey) → Fits t a y noPoint noKey → Plan·Fits t a (awaitsBy j x y)
-  unfolding awaitsBy
-  waits j x y f g = in-time f g
+  abbrev Bare : Event → Type 0
+  Bare e = Fits t a e noPoint noKey
 
   abbrev On : Event → Type 0
-  On e = Fits t a e noPoint noKey
+  On e = Bare e × (wantsVerdict e ≡ false)
+
+  refused : {w : Refusal} → On (Refused w)
+  refused = (is-refused, refl)
+
+  once : (e : Event) → On e → Plan·Fits t a (settledBy e)
+  unfolding settledBy
+  once e f = at-once (f .0) (f .1)
+
+  refuses : (w : Refusal) → Plan·Fits t a (settledBy (Refused w))
+  refuses w = once (Refused w) refused
+
+  waits : (j : Job) (x y : Event) → ((n : ℕ) → Fits t a x (takenIn j noPoint n) noKey) → On y → Plan·Fits t a (awaitsBy j x y)
+  unfolding awaitsBy
+  waits j x y f g = in-time f (g .0) (g .1)
 
   -- the trust points may be selected, and the chain's DV
   found-selects : (n : Name) (i : Issuer) → found (t .points) n ≡ Is i → Selects t i
@@ -191,27 +235,27 @@ module _ (t : Token) (a : Asked) where
 
   -- the ladders' ways
   choose-ways : (s i l u : Bool) (c : Choice) (n : ℕ) → (s ≡ false → On (Chosen c n)) → On (chooseLadder s i l u c n)
-  choose-ways true i l u c n f = is-refused
-  choose-ways false true l u c n f = is-refused
-  choose-ways false false true u c n f = is-refused
-  choose-ways false false false true c n f = is-refused
+  choose-ways true i l u c n f = refused
+  choose-ways false true l u c n f = refused
+  choose-ways false false true u c n f = refused
+  choose-ways false false false true c n f = refused
   choose-ways false false false false c n f = f refl
 
   verify-ways : (m r u l : Bool) (x : Event) → (m ≡ false → r ≡ false → u ≡ false → (n : ℕ) → Fits t a x (withKey (a .point) n) noKey) → Fits t a NotPassed (a .point) noKey
       → Course·Fits t a (a .point) noKey (verifyLadder m r u l x)
-  verify-ways true r u l x f g = at-once is-refused
-  verify-ways false true u l x f g = at-once is-refused
-  verify-ways false false true l x f g = at-once is-refused
-  verify-ways false false false true x f g = at-once is-refused
-  verify-ways false false false false x f g = in-time (f refl refl refl) g
+  verify-ways true r u l x f g = at-once is-refused refl
+  verify-ways false true u l x f g = at-once is-refused refl
+  verify-ways false false true l x f g = at-once is-refused refl
+  verify-ways false false false true x f g = at-once is-refused refl
+  verify-ways false false false false x f g = in-time (f refl refl refl) g refl
 
   unblock-ways : (p r u f : Bool) → On UnblockedByPuk → On UnblockedByRight → On (unblockLadder p r u f)
-  unblock-ways true r true f x y = is-refused
-  unblock-ways true r false true x y = is-refused
+  unblock-ways true r true f x y = refused
+  unblock-ways true r false true x y = refused
   unblock-ways true r false false x y = x
-  unblock-ways false true u true x y = is-refused
+  unblock-ways false true u true x y = refused
   unblock-ways false true u false x y = y
-  unblock-ways false false u f x y = is-refused
+  unblock-ways false false u f x y = refused
 
   run-chip : (c : Choice) (s : Step) → Plan·Fits t a (runPlan (t .pin) c s Chip)
   unfolding runPlan
@@ -219,7 +263,7 @@ module _ (t : Token) (a : Asked) where
 
   active-fits : (e : Event) → On e → Plan·Fits t a (activePlan (contextOf t) e)
   unfolding activePlan
-  active-fits e f = once _ (of-both On (managesPin (contextOf t)) f is-refused)
+  active-fits e f = once _ (of-both On (managesPin (contextOf t)) f refused)
 
   module _ {m : Kind} {ch : Bool} where
     choose-fits : (c : Choice) → a .request ≡ Asks m ch (Choose c) → Plan·Fits t a (choosePlan (t .pin) (t .active) (t .puk) (contextOf t .opened) c)
@@ -227,21 +271,21 @@ module _ (t : Token) (a : Asked) where
     choose-fits c q =
         once _
         (choose-ways (isPin (passwordOf c) && eqb (t .pin) 0) (isPin (passwordOf c) && not (t .active)) (isPin (passwordOf c) && eqb (t .pin) 1 && not (openedByCan (contextOf t .opened)))
-        (isPuk (passwordOf c) && eqb (t .puk) 0) c (t .pin) (λ e. is-chosen q e))
+        (isPuk (passwordOf c) && eqb (t .puk) 0) c (t .pin) (λ e. (is-chosen q e, refl)))
 
     run-fits : (x : Step) (c : Choice) (s : Step) → a .request ≡ Asks m ch (General (StepData x)) → contextOf t .stage ≡ Run c s → Plan·Fits t a (runPlan (t .pin) c s (StepData x))
     unfolding runPlan
     run-fits x c s q r =
         rung (Plan·Fits t a) (not (isFor (StepData x) s)) (λ e. refuses Data)
-        (λ e. waits (StepJob s) (passedEvent c s) (otherEvent c s (t .pin)) (λ n. rung On (isLast s) (λ l. is-opened q r l) (λ l. is-stepped q r l))
-        (of-both On (isLast s) (of-both On (isPin (passwordOf c)) (is-fell q r) (is-closed q r)) (is-closed q r)))
+        (λ e. waits (StepJob s) (passedEvent c s) (otherEvent c s (t .pin)) (λ n. rung Bare (isLast s) (λ l. is-opened q r l) (λ l. is-stepped q r l))
+        (of-both On (isLast s) (of-both On (isPin (passwordOf c)) (is-trial-lost q r, refl) (is-run-closed q r, refl)) (is-run-closed q r, refl)))
 
     chip-fits : (x : Content) → a .request ≡ Asks m ch (General x) → contextOf t .stage ≡ ChipKeyChosen → Plan·Fits t a (chipPlan (contextOf t .key) x)
     unfolding chipPlan
     chip-fits (StepData s) q r = refuses Data
-    chip-fits Chip q r = in-time (λ n. is-authenticated q r) (is-chip-lost q r)
+    chip-fits Chip q r = in-time (λ n. is-authenticated q r) (is-chip-lost q r) refl
 
-    general-fits : (x : Content) (s : Stage) → a .request ≡ Asks m ch (General x) → contextOf t .stage ≡ s → Plan·Fits t a (generalPlan (contextOf t) (t .pin) s x)
+    general-fits : (x : Content) (s : Stage) → a .request ≡ Asks m ch (General x) → contextOf t .stage ≡ s → Plan·Fits t a (generalPlan (contextOf t .key) (t .pin) s x)
     unfolding generalPlan
     general-fits (StepData x) (Run c s) q r = run-fits x c s q r
     general-fits Chip (Run c s) q r = run-chip c s
@@ -257,9 +301,9 @@ module _ (t : Token) (a : Asked) where
     select-fits n q = go (found (t .points) n) refl
       where
         go : (x : Anchor) → found (t .points) n ≡ x → Plan·Fits t a (selectBy (chainOf t) n x)
-        go (Is i) e = once _ (is-selected q (found-selects n i e))
+        go (Is i) e = once _ (is-selected q (found-selects n i e), refl)
         go Unknown e =
-            rung (Plan·Fits t a) (hasDv (chainOf t) && sameName n (chainOf t .dv .name)) (λ f. once _ (is-selected q (to-dv (and-l (hasDv (chainOf t)) (sameName n (chainOf t .dv .name)) f)))) (λ f. refuses NotFound)
+            rung (Plan·Fits t a) (hasDv (chainOf t) && sameName n (chainOf t .dv .name)) (λ f. once _ (is-selected q (to-dv (and-l (hasDv (chainOf t)) (sameName n (chainOf t .dv .name)) f)), refl)) (λ f. refuses NotFound)
 
     -- under each issuer, each role
     module _ (q : a .request ≡ Asks m ch Verify) (c : certifying t ≡ true) where
@@ -267,18 +311,18 @@ module _ (t : Token) (a : Asked) where
           → repeats (t .points) (chainOf t .dv) (a .point .name) o ≡ false → not (sameName (a .name) (holderOf (t .points) i (chainOf t .dv) .name)) ≡ false
           → (n : ℕ) → Fits t a (takenEvent o (holderOf (t .points) i (chainOf t .dv) .rights)) (withKey (a .point) n) noKey
       unfolding repeats
-      taken-fits Newest Cvca r s e f g n = is-linked n q c r (or-l (knows (t .points) (a .point .name)) _ f)
-      taken-fits Newest OfficialDv r s e f g n = is-deputed n q c (rw r) (or-l (knows (t .points) (a .point .name)) _ f) as-newest (not-false _ g)
-      taken-fits Newest OtherDv r s e f g n = is-deputed n q c (rw r) (or-l (knows (t .points) (a .point .name)) _ f) as-newest (not-false _ g)
+      taken-fits Newest Cvca r s e f g n = is-link-taken n q c r (or-l (knows (t .points) (a .point .name)) _ f)
+      taken-fits Newest OfficialDv r s e f g n = is-dv-taken n q c (rw r) (or-l (knows (t .points) (a .point .name)) _ f) as-newest (not-false _ g)
+      taken-fits Newest OtherDv r s e f g n = is-dv-taken n q c (rw r) (or-l (knows (t .points) (a .point .name)) _ f) as-newest (not-false _ g)
       taken-fits Newest Terminal r s e f g n = true-false e
-      taken-fits Previous Cvca r s e f g n = is-linked n q c r (or-l (knows (t .points) (a .point .name)) _ f)
-      taken-fits Previous OfficialDv r s e f g n = is-deputed n q c (rw r) (or-l (knows (t .points) (a .point .name)) _ f) (as-previous s) (not-false _ g)
-      taken-fits Previous OtherDv r s e f g n = is-deputed n q c (rw r) (or-l (knows (t .points) (a .point .name)) _ f) (as-previous s) (not-false _ g)
+      taken-fits Previous Cvca r s e f g n = is-link-taken n q c r (or-l (knows (t .points) (a .point .name)) _ f)
+      taken-fits Previous OfficialDv r s e f g n = is-dv-taken n q c (rw r) (or-l (knows (t .points) (a .point .name)) _ f) (as-previous s) (not-false _ g)
+      taken-fits Previous OtherDv r s e f g n = is-dv-taken n q c (rw r) (or-l (knows (t .points) (a .point .name)) _ f) (as-previous s) (not-false _ g)
       taken-fits Previous Terminal r s e f g n = true-false e
       taken-fits Dv Cvca r s e f g n = true-false e
       taken-fits Dv OfficialDv r s e f g n = true-false e
       taken-fits Dv OtherDv r s e f g n = true-false e
-      taken-fits Dv Terminal r s e f g n = is-completed n q c r s (not-false _ g)
+      taken-fits Dv Terminal r s e f g n = is-terminal-taken n q c r s (not-false _ g)
 
       under-fits : (i : Issuer) → selectable (Chose i) (t .points .two) (hasDv (chainOf t)) ≡ true → Plan·Fits t a (underPlan (t .points) (chainOf t .dv) (t .today) i (a .name) (a .point))
       unfolding underPlan underCourse
@@ -295,20 +339,20 @@ module _ (t : Token) (a : Asked) where
 
     announce-fits : a .request ≡ Asks m ch Announce → hasTerminal (chainOf t) && unproven (contextOf t .stage) ≡ true → Plan·Fits t a (announcePlan (chainOf t .terminal .name) (a .name) (a .key))
     unfolding announcePlan
-    announce-fits q e = of-both (Plan·Fits t a) (sameName (a .name) (chainOf t .terminal .name)) (at-once (is-announced q e)) (refuses NotFound)
+    announce-fits q e = of-both (Plan·Fits t a) (sameName (a .name) (chainOf t .terminal .name)) (at-once (is-announced q e) refl) (refuses NotFound)
 
     read-fits : (n : ℕ) → a .request ≡ Asks m ch (Read n) → Plan·Fits t a (readPlan (contextOf t) n)
     unfolding readPlan
-    read-fits n q = once _ (of-both On (readsGroup (authorization (contextOf t)) n) (is-read q) is-refused)
+    read-fits n q = once _ (of-both On (readsGroup (authorization (contextOf t)) n) (is-read q, refl) refused)
 
     change-fits : a .request ≡ Asks m ch ChangePin → Plan·Fits t a (changePlan (contextOf t) (t .active))
     unfolding changePlan
     change-fits q =
-        of-both (Plan·Fits t a) ((openedByPin (contextOf t .opened) && t .active) || managesPin (contextOf t)) (waits PinChange PinChanged NotPassed (λ n. is-changed q) (not-passed q changing)) (refuses Lacking)
+        of-both (Plan·Fits t a) ((openedByPin (contextOf t .opened) && t .active) || managesPin (contextOf t)) (waits PinChange PinChanged NotPassed (λ n. is-changed q) (not-passed q changing, refl)) (refuses Lacking)
 
-    unblock-fits : a .request ≡ Asks m ch Unblock → Plan·Fits t a (unblockPlan (contextOf t) (eqb (t .puk) 0) (eqb (t .pin) tries))
+    unblock-fits : a .request ≡ Asks m ch Unblock → Plan·Fits t a (unblockPlan (contextOf t) (t .pin) (t .puk))
     unfolding unblockPlan
-    unblock-fits q = once _ (unblock-ways (openedByPuk (contextOf t .opened)) (managesPin (contextOf t)) (eqb (t .puk) 0) (eqb (t .pin) tries) (is-unblocked-puk q) (is-unblocked q))
+    unblock-fits q = once _ (unblock-ways (openedByPuk (contextOf t .opened)) (managesPin (contextOf t)) (eqb (t .puk) 0) (eqb (t .pin) tries) (is-unblocked-puk q, refl) (is-unblocked q, refl))
 
   -- every ask, at its moment
   command-fits : {m : Kind} {ch : Bool} {x : Ask} → inLimits t ≡ true → Of m x → a .request ≡ Asks m ch x → momentOf (t .session) m ch ≡ true → Plan·Fits t a (commandOf t a x)
@@ -319,14 +363,14 @@ module _ (t : Token) (a : Asked) where
   command-fits l of-select q e = select-fits (a .name) q
   command-fits l of-verify q e = verify-fits q (and-l (certifying t) (isSelected (t .session .selected)) e) (t .session .selected) (limits-of t l .chosen)
   command-fits l of-announce q e = announce-fits q e
-  command-fits l of-challenge q e = waits ChallengeJob IsChallenged NotPassed (λ n. is-challenged q e) (not-passed q challenging)
-  command-fits l of-prove q e = waits Proof IsProven ProofLost (λ n. is-proven q e) (is-disproved q e)
-  command-fits l of-chip-key q e = once _ (is-chip q e)
+  command-fits l of-challenge q e = waits ChallengeJob IsChallenged NotPassed (λ n. is-challenged q e) (not-passed q challenging, refl)
+  command-fits l of-prove q e = waits Proof IsProven ProofLost (λ n. is-proven q e) (is-proof-lost q e, refl)
+  command-fits l of-chip-key q e = once _ (is-chip-key-chosen q e, refl)
   command-fits l (of-read {n = n}) q e = read-fits n q
   command-fits l of-change-pin q e = change-fits q
   command-fits l of-unblock q e = unblock-fits q
-  command-fits l of-activate q e = active-fits Activated (is-activated q)
-  command-fits l of-deactivate q e = active-fits Deactivated (is-deactivated q)
+  command-fits l of-activate q e = active-fits Activated (is-activated q, refl)
+  command-fits l of-deactivate q e = active-fits Deactivated (is-deactivated q, refl)
 
   timed-fits : (m : Kind) (ch : Bool) (x : Ask) → inLimits t ≡ true → Of m x → a .request ≡ Asks m ch x → Plan·Fits t a (timedOf t a m ch x)
   unfolding timedOf
@@ -334,7 +378,7 @@ module _ (t : Token) (a : Asked) where
 
   guard-fits : (g : Guard) (p : Plan) → Plan·Fits t a p → Plan·Fits t a (guarded g p)
   unfolding guarded
-  guard-fits (Drops l) p f = once (Lost l) is-lost
+  guard-fits (Drops l) p f = once (Lost l) (is-lost, refl)
   guard-fits Passes p f = f
 
 module _ (t : Token) (s : List ℕ) where
@@ -349,6 +393,10 @@ module _ (t : Token) (s : List ℕ) where
       rung (Plan·Fits t (askedOf s)) (not (inLimits t)) (λ e. refuses t (askedOf s) Outside)
       (λ e. guard-fits t (askedOf s) (guardOf note (isOpen (contextOf t .opened))) _ (request-fits (not-false (inLimits t) e) (askedOf s .request) refl))
 
+  -- no event that wants a verdict comes without a good one
+  pub plan-modest : (note : Note) → wantsVerdict (without (planOf t s note .course)) ≡ false
+  plan-modest note = modest (plan-fits note)
+
   -- what happens fits
   pub fits : (note : Note) (r : Answered) (first second : List ℕ)
       → Fits t (askedOf s) (happenedOf t s note r first second .event) (happenedOf t s note r first second .point) (happenedOf t s note r first second .key)
@@ -361,16 +409,16 @@ module _ (t : Token) (s : List ℕ) where
       q = planOf t s note
 
       settled : {c : Course} {e : Event} → c ≡ Settled e → Course·Fits t (askedOf s) (q .point) (q .key) c → Fits t (askedOf s) e (q .point) (q .key)
-      settled i (at-once f) = subst (λ (x : Event). Fits t (askedOf s) x (q .point) (q .key)) (cc) f
-      settled i (in-time f g) = true-false (cc)
+      settled i (at-once f w) = subst (λ (x : Event). Fits t (askedOf s) x (q .point) (q .key)) (cc) f
+      settled i (in-time f g w) = true-false (cc)
 
       otherwise : {c : Course} {j : Job} {x y : Event} → c ≡ Awaits j x y → Course·Fits t (askedOf s) (q .point) (q .key) c → Fits t (askedOf s) y (q .point) (q .key)
-      otherwise i (at-once f) = true-false (cc)
-      otherwise i (in-time f g) = subst (λ (x : Event). Fits t (askedOf s) x (q .point) (q .key)) (cc) g
+      otherwise i (at-once f w) = true-false (cc)
+      otherwise i (in-time f g w) = subst (λ (x : Event). Fits t (askedOf s) x (q .point) (q .key)) (cc) g
 
       passed : {c : Course} {j : Job} {x y : Event} (n : ℕ) → c ≡ Awaits j x y → Course·Fits t (askedOf s) (q .point) (q .key) c → Fits t (askedOf s) x (takenIn j (q .point) n) (q .key)
-      passed n i (at-once f) = true-false (cc)
-      passed {j = j} {x = x} n i (in-time {j = k} {x = z} f g) =
+      passed n i (at-once f w) = true-false (cc)
+      passed {j = j} {x = x} n i (in-time {j = k} {x = z} f g w) =
           let u : k ≡ j = cc in
           let v : z ≡ x = cc in
           subst (λ (m : Job). Fits t (askedOf s) x (takenIn m (q .point) n) (q .key)) u (subst (λ (w : Event). Fits t (askedOf s) w (takenIn k (q .point) n) (q .key)) v (f n))

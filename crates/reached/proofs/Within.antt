@@ -48,41 +48,42 @@ use Rattle.standing.specs.declared.Stage.{Stage}
 use Rattle.standing.specs.declared.Stage.the-variants.{Idle, Run, Announced, Challenged, Proven, ChipKeyChosen, Authenticated}
 use Rattle.session.specs.declared.Context.{Context}
 use Rattle.session.specs.declared.Session.{Session}
-use Rattle.standing.specs.Standing.{openedByPin, openedByCan, hasRights, reachesDv, reachesTerminal, hasDv, hasTerminal, noChain, rank, told, unproven}
+use Rattle.standing.proofs.Stages.{challenged-is, Challengeable, when-announced, when-challenged, challengeable, Choosable, when-proven, when-chosen, choosable}
+use Rattle.standing.specs.Standing.{openedByPin, openedByCan, hasRights, reachesDv, reachesTerminal, hasDv, hasTerminal, noChain, fromAnnounced, unproven}
 use Rattle.session.specs.Session.{bareSession, atStage, announcedWith, chainedTo}
 use Rattle.bounds.specs.Bounds.{grantedFits, rootFits, dvFits, terminalFits, reachFits, chainFits, runFits, stageFits, groundFits, contextFits}
 use Rattle.token.specs.declared.state.Token.{Token}
 use Rattle.status.specs.declared.Intake.the-variants.{Accepted, Unfit}
 use Rattle.token.specs.declared.state.Personalised.{Personalised}
-use Rattle.token.specs.State.{uses, withSession, withPin, resetOf, startOf, noToken, madeOf, contextOf, chainOf}
+use Rattle.token.specs.State.{uses, withSession, withPin, withActive, resetOf, startOf, noToken, madeOf, contextOf, chainOf}
 use Rattle.token.specs.Limits.{selectable}
-use Rattle.token.specs.After.{choiceTaken, staged, stepPassed, triesAfter, opened, runClosed, trialLost, issuerSelected, linkTaken, dvTaken, extended, terminalTaken, announced, unblocked, unblockedByPuk, activated, afterOf}
+use Rattle.token.specs.After.{choiceTaken, staged, stepPassed, triesAfter, opened, runClosed, trialLost, issuerSelected, linkTaken, dvTaken, extended, terminalTaken, announced, unblocked, unblockedByPuk, afterOf}
 use Rattle.token.specs.Step.{Stepped, happenedOf, nextOf, stepOf}
 use Rattle.reply.specs.Reply.{room}
-use Rattle.reached.proofs.Fits.{Lim, certifying, Holds, as-newest, as-previous, Selects, to-newest, to-previous, to-dv, Fits, is-refused, is-lost, is-chosen, is-stepped, is-opened, is-closed, is-fell, is-selected, is-linked, is-deputed, is-completed, is-announced, is-challenged, is-proven, is-disproved, is-chip, is-authenticated, is-chip-lost, not-passed, is-read, is-changed, is-unblocked-puk, is-unblocked, is-activated, is-deactivated, fits}
+use Rattle.reached.proofs.Fits.{InLimits, certifying, Holds, as-newest, as-previous, Selects, to-newest, to-previous, to-dv, Fits, is-refused, is-lost, is-chosen, is-stepped, is-opened, is-run-closed, is-trial-lost, is-selected, is-link-taken, is-dv-taken, is-terminal-taken, is-announced, is-challenged, is-proven, is-proof-lost, is-chip-key-chosen, is-authenticated, is-chip-lost, not-passed, is-read, is-changed, is-unblocked-puk, is-unblocked, is-activated, is-deactivated, fits}
 
 -- ---- the rungs of a session
 
-pub record Ctx (c : Context) (pin : ℕ) : Type 0 where
+pub record InContext (c : Context) (pin : ℕ) : Type 0 where
   pub rights : grantedFits (c .confirmed) ≡ true
   pub chain : chainFits (c .chain) ≡ true
   pub stage : stageFits (c .stage) pin ≡ true
   pub key : keyFits (c .key) ≡ true
   pub opener : not (hasRights (c .confirmed)) || (openedByPin (c .opened) || openedByCan (c .opened)) ≡ true
-  pub deputy : not (hasDv (c .chain)) || hasRights (c .confirmed) ≡ true
-  pub told-on : not (told (c .stage)) || (hasRights (c .confirmed) && hasTerminal (c .chain) && keyStands (c .key)) ≡ true
+  pub chain-confirmed : not (hasDv (c .chain)) || hasRights (c .confirmed) ≡ true
+  pub grounds : not (fromAnnounced (c .stage)) || (hasRights (c .confirmed) && hasTerminal (c .chain) && keyStands (c .key)) ≡ true
 
-pub context-of : (c : Context) (pin : ℕ) → contextFits c pin ≡ true → Ctx c pin
+pub context-of : (c : Context) (pin : ℕ) → contextFits c pin ≡ true → InContext c pin
 unfolding contextFits groundFits
 context-of c pin h =
     let o : Bool = not (hasRights (c .confirmed)) || (openedByPin (c .opened) || openedByCan (c .opened)) in
     let d : Bool = not (hasDv (c .chain)) || hasRights (c .confirmed) in
-    let u : Bool = not (told (c .stage)) || (hasRights (c .confirmed) && hasTerminal (c .chain) && keyStands (c .key)) in
+    let u : Bool = not (fromAnnounced (c .stage)) || (hasRights (c .confirmed) && hasTerminal (c .chain) && keyStands (c .key)) in
     let k = and-5 (grantedFits (c .confirmed)) (chainFits (c .chain)) (stageFits (c .stage) pin) (keyFits (c .key)) (o && d && u) h in
     let g = and-l (o && d) u (k .4) in
-    record { rights = k .0; chain = k .1; stage = k .2; key = k .3; opener = and-l o d g; deputy = and-r o d g; told-on = and-r (o && d) u (k .4) }
+    record { rights = k .0; chain = k .1; stage = k .2; key = k .3; opener = and-l o d g; chain-confirmed = and-r o d g; grounds = and-r (o && d) u (k .4) }
 
-pub in-context : {c : Context} {pin : ℕ} → Ctx c pin → contextFits c pin ≡ true
+pub in-context : {c : Context} {pin : ℕ} → InContext c pin → contextFits c pin ≡ true
 unfolding contextFits groundFits
 in-context x = cc
 
@@ -94,9 +95,9 @@ or-yes false b e = e
 
 -- nothing but an opener, rights and a stage before announced
 bare-in : (o : Opened) (g : Granted) (s : Stage) (pin : ℕ) → grantedFits g ≡ true → stageFits s pin ≡ true → not (hasRights g) || (openedByPin o || openedByCan o) ≡ true
-    → told s ≡ false → Ctx (bareSession o g s .context) pin
+    → fromAnnounced s ≡ false → InContext (bareSession o g s .context) pin
 unfolding noChain noKey chainFits keyFits
-bare-in o g s pin a b c d = record { rights = a; chain = refl; stage = b; key = refl; opener = c; deputy = refl; told-on = rw d }
+bare-in o g s pin a b c d = record { rights = a; chain = refl; stage = b; key = refl; opener = c; chain-confirmed = refl; grounds = rw d }
 
 still : (p q r : Bool) → not p || q ≡ true → not q || r ≡ true → not p || r ≡ true
 still false q r e f = refl
@@ -104,7 +105,7 @@ still true true r e f = f
 still true false r e f = true-false (sym e)
 
 -- the same session at another stage
-moved : (c : Session) (pin : ℕ) (s : Stage) → stageFits s pin ≡ true → not (told s) || told (c .context .stage) ≡ true → Ctx (c .context) pin → Ctx (atStage c s .context) pin
+moved : (c : Session) (pin : ℕ) (s : Stage) → stageFits s pin ≡ true → not (fromAnnounced s) || fromAnnounced (c .context .stage) ≡ true → InContext (c .context) pin → InContext (atStage c s .context) pin
 moved c pin s a b x =
     record {
       rights = x .rights;
@@ -112,49 +113,44 @@ moved c pin s a b x =
       stage = a;
       key = x .key;
       opener = x .opener;
-      deputy = x .deputy;
-      told-on = still (told s) (told (c .context .stage)) (hasRights (c .context .confirmed) && hasTerminal (c .context .chain) && keyStands (c .context .key)) b (x .told-on);
+      chain-confirmed = x .chain-confirmed;
+      grounds = still (fromAnnounced s) (fromAnnounced (c .context .stage)) (hasRights (c .context .confirmed) && hasTerminal (c .context .chain) && keyStands (c .context .key)) b (x .grounds);
     }
 
 -- a chain, where rights are confirmed
-chained-in : (z : Session) (pin : ℕ) (c : Chain) → chainFits c ≡ true → not (hasDv c) || hasRights (z .context .confirmed) ≡ true → Ctx (z .context) pin → Ctx (chainedTo z c .context) pin
+chained-in : (z : Session) (pin : ℕ) (c : Chain) → chainFits c ≡ true → not (hasDv c) || hasRights (z .context .confirmed) ≡ true → InContext (z .context) pin → InContext (chainedTo z c .context) pin
 unfolding noKey keyFits
-chained-in z pin c a b x = record { rights = x .rights; chain = a; stage = refl; key = refl; opener = x .opener; deputy = b; told-on = refl }
+chained-in z pin c a b x = record { rights = x .rights; chain = a; stage = refl; key = refl; opener = x .opener; chain-confirmed = b; grounds = refl }
 
--- a run stands at any counter but 0
-run-three : (s : Stage) (pin : ℕ) → stageFits s pin ≡ true → stageFits s tries ≡ true
-run-three Idle pin e = refl
-run-three (Run c p) pin e = three (isPin (passwordOf c)) (eqb pin 0) (grantedFits (rightsNamed c)) e
+-- a stage within its limits at some counter is so at 3
+stage-three : (s : Stage) (pin : ℕ) → stageFits s pin ≡ true → stageFits s tries ≡ true
+stage-three Idle pin e = refl
+stage-three (Run c p) pin e = three (isPin (passwordOf c)) (eqb pin 0) (grantedFits (rightsNamed c)) e
   where
     three : (a b c : Bool) → not (a && b) && c ≡ true → not (a && false) && c ≡ true
     three true true c e = true-false (sym e)
     three true false c e = e
     three false b c e = e
-run-three Announced pin e = refl
-run-three Challenged pin e = refl
-run-three Proven pin e = refl
-run-three ChipKeyChosen pin e = refl
-run-three Authenticated pin e = refl
+stage-three Announced pin e = refl
+stage-three Challenged pin e = refl
+stage-three Proven pin e = refl
+stage-three ChipKeyChosen pin e = refl
+stage-three Authenticated pin e = refl
 
-with-three : (c : Context) (pin : ℕ) → Ctx c pin → Ctx c tries
-with-three c pin x = record { rights = x .rights; chain = x .chain; stage = run-three (c .stage) pin (x .stage); key = x .key; opener = x .opener; deputy = x .deputy; told-on = x .told-on }
+with-three : (c : Context) (pin : ℕ) → InContext c pin → InContext c tries
+with-three c pin x = record { rights = x .rights; chain = x .chain; stage = stage-three (c .stage) pin (x .stage); key = x .key; opener = x .opener; chain-confirmed = x .chain-confirmed; grounds = x .grounds }
 
 later-in : (a b : Day) → dayFits a ≡ true → dayFits b ≡ true → dayFits (later a b) ≡ true
 unfolding later
 later-in a b e f = of-both (λ (d : Day). dayFits d ≡ true) (ltb (a .0) (b .0)) f e
 
-pub record Pt (p : Point) : Type 0 where
+record InPoint (p : Point) : Type 0 where
   pub rights : rightsFit (p .rights) ≡ true
   pub first : dayFits (p .first) ≡ true
 
-point-of : (p : Point) → pointFits p ≡ true → Pt p
+point-of : (p : Point) → pointFits p ≡ true → InPoint p
 unfolding pointFits
 point-of p h = let k = and-5 (nameFits (p .name)) (rightsFit (p .rights)) (dayFits (p .first)) (dayFits (p .last)) (not (before (p .last) (p .first))) h in record { rights = k .1; first = k .2 }
-
--- a key number changes nothing of that
-keyed : (p : Point) (n : ℕ) → pointFits p ≡ true → pointFits (withKey p n) ≡ true
-unfolding pointFits withKey
-keyed p n h = h
 
 -- each held trust point is one
 held-anchor : (h : Points) {p : Point} → pointsFit h ≡ true → Holds h p → anchorFits p ≡ true
@@ -192,15 +188,6 @@ chain-terminal c p e h f = go (c .reach) e h
     go Empty e h = true-false (sym h)
     go (ToDv root) e h = rw (f) (both _ _ e refl)
     go (ToTerminal root) e h = rw (f) (both _ _ (and-l (rootFits root && dvFits (c .dv)) (terminalFits (c .terminal)) e) refl)
-
-dv-of : (c : Chain) → chainFits c ≡ true → hasDv c ≡ true → dvFits (c .dv) ≡ true
-unfolding chainFits
-dv-of c e h = go (c .reach) e h
-  where
-    go : (r : Reach) → reachFits r (c .dv) (c .terminal) ≡ true → reachesDv r ≡ true → dvFits (c .dv) ≡ true
-    go Empty e h = true-false (sym h)
-    go (ToDv root) e h = and-r (rootFits root) (dvFits (c .dv)) e
-    go (ToTerminal root) e h = and-r (rootFits root) (dvFits (c .dv)) (and-l (rootFits root && dvFits (c .dv)) (terminalFits (c .terminal)) e)
 
 terminal-dv : (c : Chain) → hasTerminal c ≡ true → hasDv c ≡ true
 terminal-dv c h = go (c .reach) h
@@ -243,68 +230,67 @@ Sound a = (m : Kind) (ch : Bool) (x : Ask) → a .request ≡ Asks m ch x → Na
 
 -- ---- every event keeps the limits
 
-module _ (t : Token) (l : Lim t) where
-  x : Ctx (contextOf t) (t .pin)
-  x = context-of (contextOf t) (t .pin) (l .context)
+module _ (t : Token) (l : InLimits t) where
+  context-in : InContext (contextOf t) (t .pin)
+  context-in = context-of (contextOf t) (t .pin) (l .context)
 
   -- another session with an empty chain, and perhaps another counter
-  bare : (o : Opened) (g : Granted) (s : Stage) (pin : ℕ) → leb pin tries ≡ true → Ctx (bareSession o g s .context) pin → Lim (withPin (withSession t (bareSession o g s)) pin)
+  bare : (o : Opened) (g : Granted) (s : Stage) (pin : ℕ) → leb pin tries ≡ true → InContext (bareSession o g s .context) pin → InLimits (withPin (withSession t (bareSession o g s)) pin)
   unfolding noChain
   bare o g s pin e c = record { pin = e; puk = l .puk; today = l .today; points = l .points; context = in-context c; dv = refl; chosen = refl }
 
-  lost : Lim (resetOf t)
+  lost : InLimits (resetOf t)
   unfolding resetOf
   lost = bare Nobody NoRights Idle (t .pin) (l .pin) (bare-in Nobody NoRights Idle (t .pin) refl refl refl refl)
 
-  closed : (pin : ℕ) → leb pin tries ≡ true → Lim (withPin (runClosed t) pin)
+  closed : (pin : ℕ) → leb pin tries ≡ true → InLimits (withPin (runClosed t) pin)
   unfolding runClosed
   closed pin e = bare (contextOf t .opened) NoRights Idle pin e (bare-in (contextOf t .opened) NoRights Idle pin refl refl refl refl)
 
-  at : (s : Stage) → stageFits s (t .pin) ≡ true → not (told s) || told (contextOf t .stage) ≡ true → Lim (staged t s)
+  at : (s : Stage) → stageFits s (t .pin) ≡ true → not (fromAnnounced s) || fromAnnounced (contextOf t .stage) ≡ true → InLimits (staged t s)
   unfolding staged
-  at s e f = record { pin = l .pin; puk = l .puk; today = l .today; points = l .points; context = in-context (moved (t .session) (t .pin) s e f x); dv = l .dv; chosen = l .chosen }
+  at s e f = record { pin = l .pin; puk = l .puk; today = l .today; points = l .points; context = in-context (moved (t .session) (t .pin) s e f context-in); dv = l .dv; chosen = l .chosen }
 
-  at-told : (s : Stage) → stageFits s (t .pin) ≡ true → told (contextOf t .stage) ≡ true → Lim (staged t s)
-  at-told s e f = at s e (or-yes (not (told s)) (told (contextOf t .stage)) f)
+  at-later : (s : Stage) → stageFits s (t .pin) ≡ true → fromAnnounced (contextOf t .stage) ≡ true → InLimits (staged t s)
+  at-later s e f = at s e (or-yes (not (fromAnnounced s)) (fromAnnounced (contextOf t .stage)) f)
 
   -- a counter of 3
-  three : Lim (unblocked t)
+  three : InLimits (unblocked t)
   unfolding unblocked
-  three = record { pin = refl; puk = l .puk; today = l .today; points = l .points; context = in-context (with-three (contextOf t) (t .pin) x); dv = l .dv; chosen = l .chosen }
+  three = record { pin = refl; puk = l .puk; today = l .today; points = l .points; context = in-context (with-three (contextOf t) (t .pin) context-in); dv = l .dv; chosen = l .chosen }
 
   fewer : (n k : ℕ) → leb n k ≡ true → leb (n - 1) k ≡ true
   fewer n k e = le-leb (n - 1) k (let g = leb-true n k e in omega arith)
 
-  fell : Lim (trialLost t (t .pin - 1))
+  fell : InLimits (trialLost t (t .pin - 1))
   unfolding trialLost
   fell = closed (t .pin - 1) (fewer (t .pin) tries (l .pin))
 
-  by-puk : Lim (unblockedByPuk t)
+  by-puk : InLimits (unblockedByPuk t)
   unfolding unblockedByPuk
-  by-puk = record { pin = refl; puk = fewer (t .puk) uses (l .puk); today = l .today; points = l .points; context = in-context (with-three (contextOf t) (t .pin) x); dv = l .dv; chosen = l .chosen }
+  by-puk = record { pin = refl; puk = fewer (t .puk) uses (l .puk); today = l .today; points = l .points; context = in-context (with-three (contextOf t) (t .pin) context-in); dv = l .dv; chosen = l .chosen }
 
-  active : (b : Bool) → Lim (activated t b)
-  unfolding activated
+  active : (b : Bool) → InLimits (withActive t b)
   active b = record { pin = l .pin; puk = l .puk; today = l .today; points = l .points; context = l .context; dv = l .dv; chosen = l .chosen }
 
-  selected-in : {i : Issuer} → Selects t i → Lim (issuerSelected t i)
+  selected-in : {i : Issuer} → Selects t i → InLimits (issuerSelected t i)
   unfolding issuerSelected
   selected-in e = record { pin = l .pin; puk = l .puk; today = l .today; points = l .points; context = l .context; dv = l .dv; chosen = selects e }
 
-  chosen-in : (c : Choice) → isPin (passwordOf c) && eqb (t .pin) 0 ≡ false → ((r : Rights) → rightsNamed c ≡ These r → rightsFit r ≡ true) → Lim (choiceTaken t c)
+  chosen-in : (c : Choice) → isPin (passwordOf c) && eqb (t .pin) 0 ≡ false → ((r : Rights) → rightsNamed c ≡ These r → rightsFit r ≡ true) → InLimits (choiceTaken t c)
   unfolding choiceTaken
   chosen-in c e f =
       bare (contextOf t .opened) NoRights (Run c Nonce) (t .pin) (l .pin)
       (bare-in (contextOf t .opened) NoRights (Run c Nonce) (t .pin) refl (rw e (named-in c f)) refl refl)
 
-  stepped-in : (c : Choice) (s : Step) → contextOf t .stage ≡ Run c s → Lim (stepPassed t c s)
+  stepped-in : (c : Choice) (s : Step) → contextOf t .stage ≡ Run c s → InLimits (stepPassed t c s)
   unfolding stepPassed
-  stepped-in c s e = at (Run c (nextStep s)) (subst (λ (z : Stage). stageFits z (t .pin) ≡ true) e (x .stage)) refl
+  stepped-in c s e = at (Run c (nextStep s)) (subst (λ (z : Stage). stageFits z (t .pin) ≡ true) e (context-in .stage)) refl
 
-  opened-in : (c : Choice) (s : Step) → contextOf t .stage ≡ Run c s → Lim (opened t c)
+  opened-in : (c : Choice) (s : Step) → contextOf t .stage ≡ Run c s → InLimits (opened t c)
   unfolding opened
   opened-in c s e =
-      let r : runFits c s (t .pin) ≡ true = subst (λ (z : Stage). stageFits z (t .pin) ≡ true) e (x .stage) in
+      let r : runFits c s (t .pin) ≡ true = subst (λ (z : Stage). stageFits z (t .pin) ≡ true) e (context-in .stage) in
       let g : grantedFits (rightsNamed c) ≡ true = and-r (not (isPin (passwordOf c) && eqb (t .pin) 0)) (grantedFits (rightsNamed c)) r in
       bare (By (passwordOf c)) (rightsNamed c) Idle (triesAfter c (t .pin)) (of-both (λ (k : ℕ). leb k tries ≡ true) (isPin (passwordOf c)) refl (l .pin))
       (bare-in (By (passwordOf c)) (rightsNamed c) Idle (triesAfter c (t .pin)) g refl (names-opener c) refl)
@@ -313,7 +299,7 @@ module _ (t : Token) (l : Lim t) where
     confirmed : hasRights (contextOf t .confirmed) ≡ true
     confirmed = and-l (hasRights (contextOf t .confirmed)) (unproven (contextOf t .stage)) c
 
-    link-in : roleOf (p .rights) ≡ Cvca → knows (t .points) (p .name) ≡ false → Lim (linkTaken t (withKey p n))
+    link-in : roleOf (p .rights) ≡ Cvca → knows (t .points) (p .name) ≡ false → InLimits (linkTaken t (withKey p n))
     unfolding linkTaken noChain chainFits withKey
     link-in r k =
         record {
@@ -321,12 +307,12 @@ module _ (t : Token) (l : Lim t) where
           puk = l .puk;
           today = later-in (t .today) (p .first) (l .today) (point-of p f .first);
           points = linked-in (t .points) p n (l .points) f r k;
-          context = in-context (chained-in (t .session) (t .pin) noChain refl refl x);
+          context = in-context (chained-in (t .session) (t .pin) noChain refl refl context-in);
           dv = refl;
           chosen = refl;
         }
 
-    dv-in : {h : Point} → isDv (roleOf (p .rights)) ≡ true → knows (t .points) (p .name) ≡ false → Holds (t .points) h → Lim (dvTaken t (withKey p n) (h .rights))
+    dv-in : {h : Point} → isDv (roleOf (p .rights)) ≡ true → knows (t .points) (p .name) ≡ false → Holds (t .points) h → InLimits (dvTaken t (withKey p n) (h .rights))
     unfolding dvTaken dvFits withKey pointFits
     dv-in {h} r k q =
         record {
@@ -337,12 +323,12 @@ module _ (t : Token) (l : Lim t) where
           context =
               in-context
               (chained-in (t .session) (t .pin) (record { reach = ToDv (h .rights); dv = withKey p n; terminal = noPoint })
-              (chain-dv (h .rights) (withKey p n) noPoint (anchor-root h (held-anchor (t .points) (l .points) q)) (rw (f, r))) confirmed x);
+              (chain-dv (h .rights) (withKey p n) noPoint (anchor-root h (held-anchor (t .points) (l .points) q)) (rw (f, r))) confirmed context-in);
           dv = rw k;
           chosen = refl;
         }
 
-    terminal-in : roleOf (p .rights) ≡ Terminal → hasDv (chainOf t) ≡ true → Lim (terminalTaken t (withKey p n))
+    terminal-in : roleOf (p .rights) ≡ Terminal → hasDv (chainOf t) ≡ true → InLimits (terminalTaken t (withKey p n))
     unfolding terminalTaken terminalFits withKey pointFits
     terminal-in r h =
         record {
@@ -353,73 +339,53 @@ module _ (t : Token) (l : Lim t) where
           context =
               in-context
               (chained-in (t .session) (t .pin) (record { reach = extended (chainOf t .reach); dv = chainOf t .dv; terminal = withKey p n })
-              (chain-terminal (chainOf t) (withKey p n) (x .chain) h (rw (f, r))) (rw (extended-dv (chainOf t .reach), h) confirmed) x);
+              (chain-terminal (chainOf t) (withKey p n) (context-in .chain) h (rw (f, r))) (rw (extended-dv (chainOf t .reach), h) confirmed) context-in);
           dv = rw (extended-dv (chainOf t .reach)) (l .dv);
           chosen = refl;
         }
 
-  announced-in : (k : Key) → keyFits k ≡ true → keyStands k ≡ true → hasTerminal (chainOf t) ≡ true → Lim (announced t k)
+  announced-in : (k : Key) → keyFits k ≡ true → keyStands k ≡ true → hasTerminal (chainOf t) ≡ true → InLimits (announced t k)
   unfolding announced
   announced-in k e f h =
-      let r = or-then (hasDv (chainOf t)) (hasRights (contextOf t .confirmed)) (x .deputy) (terminal-dv (chainOf t) h) in
+      let r = or-then (hasDv (chainOf t)) (hasRights (contextOf t .confirmed)) (context-in .chain-confirmed) (terminal-dv (chainOf t) h) in
       record {
         pin = l .pin;
         puk = l .puk;
         today = l .today;
         points = l .points;
-        context = in-context {c = announcedWith (t .session) k .context} (record { rights = x .rights; chain = x .chain; stage = refl; key = e; opener = x .opener; deputy = x .deputy; told-on = rw (r, h, f) });
+        context = in-context {c = announcedWith (t .session) k .context} (record { rights = context-in .rights; chain = context-in .chain; stage = refl; key = e; opener = context-in .opener; chain-confirmed = context-in .chain-confirmed; grounds = rw (r, h, f) });
         dv = l .dv;
         chosen = l .chosen;
       }
 
-  -- the tests on the stage
-  told-challenge : (s : Stage) → eqb (rank s) 2 || eqb (rank s) 3 ≡ true → told s ≡ true
-  told-challenge Idle e = e
-  told-challenge (Run c p) e = e
-  told-challenge Announced e = refl
-  told-challenge Challenged e = refl
-  told-challenge Proven e = refl
-  told-challenge ChipKeyChosen e = refl
-  told-challenge Authenticated e = refl
+  from-challenge : {s : Stage} → Challengeable s → fromAnnounced s ≡ true
+  from-challenge when-announced = refl
+  from-challenge when-challenged = refl
 
-  told-three : (s : Stage) → eqb (rank s) 3 ≡ true → told s ≡ true
-  told-three Idle e = e
-  told-three (Run c p) e = e
-  told-three Announced e = refl
-  told-three Challenged e = refl
-  told-three Proven e = refl
-  told-three ChipKeyChosen e = refl
-  told-three Authenticated e = refl
+  from-proof : {s : Stage} → Choosable s → fromAnnounced s ≡ true
+  from-proof when-proven = refl
+  from-proof when-chosen = refl
 
-  told-chip : (s : Stage) → eqb (rank s) 4 || eqb (rank s) 5 ≡ true → told s ≡ true
-  told-chip Idle e = e
-  told-chip (Run c p) e = e
-  told-chip Announced e = refl
-  told-chip Challenged e = refl
-  told-chip Proven e = refl
-  told-chip ChipKeyChosen e = refl
-  told-chip Authenticated e = refl
-
-  pub keep-in : {a : Asked} {e : Event} {p : Point} {k : Key} → Sound a → Fits t a e p k → Lim (afterOf t e p k)
+  pub keep-in : {a : Asked} {e : Event} {p : Point} {k : Key} → Sound a → Fits t a e p k → InLimits (afterOf t e p k)
   unfolding afterOf runClosed
   keep-in s is-refused = l
   keep-in s is-lost = lost
   keep-in s (is-chosen {c = c} q e) = chosen-in c e (s _ _ _ q)
   keep-in s (is-stepped {c = c} {s = p} q e f) = stepped-in c p e
   keep-in s (is-opened {c = c} {s = p} q e f) = opened-in c p e
-  keep-in s (is-closed q e) = closed (t .pin) (l .pin)
-  keep-in s (is-fell q e) = fell
+  keep-in s (is-run-closed q e) = closed (t .pin) (l .pin)
+  keep-in s (is-trial-lost q e) = fell
   keep-in s (is-selected q e) = selected-in e
-  keep-in s (is-linked n q c r k) = link-in _ n (s _ _ _ q .0) c r k
-  keep-in s (is-deputed n q c r k h e) = dv-in _ n (s _ _ _ q .0) c r k h
-  keep-in s (is-completed n q c r h e) = terminal-in _ n (s _ _ _ q .0) c r h
+  keep-in s (is-link-taken n q c r k) = link-in _ n (s _ _ _ q .0) c r k
+  keep-in s (is-dv-taken n q c r k h e) = dv-in _ n (s _ _ _ q .0) c r k h
+  keep-in s (is-terminal-taken n q c r h e) = terminal-in _ n (s _ _ _ q .0) c r h
   keep-in s (is-announced q e) = let w = s _ _ _ q in announced-in _ (w .0) (w .1) (and-l (hasTerminal (chainOf t)) (unproven (contextOf t .stage)) e)
-  keep-in s (is-challenged q e) = at-told Challenged refl (told-challenge (contextOf t .stage) e)
-  keep-in s (is-proven q e) = at-told Proven refl (told-three (contextOf t .stage) e)
-  keep-in s (is-disproved q e) = at-told Announced refl (told-three (contextOf t .stage) e)
-  keep-in s (is-chip q e) = at-told ChipKeyChosen refl (told-chip (contextOf t .stage) e)
-  keep-in s (is-authenticated q e) = at-told Authenticated refl (ap told e)
-  keep-in s (is-chip-lost q e) = at-told Proven refl (ap told e)
+  keep-in s (is-challenged q e) = at-later Challenged refl (from-challenge (challengeable (contextOf t .stage) e))
+  keep-in s (is-proven q e) = at-later Proven refl (ap fromAnnounced (challenged-is (contextOf t .stage) e))
+  keep-in s (is-proof-lost q e) = at-later Announced refl (ap fromAnnounced (challenged-is (contextOf t .stage) e))
+  keep-in s (is-chip-key-chosen q e) = at-later ChipKeyChosen refl (from-proof (choosable (contextOf t .stage) e))
+  keep-in s (is-authenticated q e) = at-later Authenticated refl (ap fromAnnounced e)
+  keep-in s (is-chip-lost q e) = at-later Proven refl (ap fromAnnounced e)
   keep-in s (not-passed q e) = l
   keep-in s (is-read q) = l
   keep-in s (is-changed q) = l
@@ -433,17 +399,17 @@ module _ (t : Token) (l : Lim t) where
 asked-sound : (s : List ℕ) → Sound (askedOf s)
 asked-sound s m ch x q = within-limits s m ch x q
 
-pub reset-in : (t : Token) → Lim t → Lim (resetOf t)
+pub reset-in : (t : Token) → InLimits t → InLimits (resetOf t)
 reset-in t l = lost t l
 
-pub happened-in : (t : Token) (s : List ℕ) (note : Note) (r : Answered) (first second : List ℕ) → Lim t → Lim (nextOf t (happenedOf t s note r first second))
+pub happened-in : (t : Token) (s : List ℕ) (note : Note) (r : Answered) (first second : List ℕ) → InLimits t → InLimits (nextOf t (happenedOf t s note r first second))
 happened-in t s note r first second l = keep-in t l (asked-sound s) (fits t s note r first second)
 
-pub step-in : (t : Token) (s : List ℕ) (note : Note) (r : Answered) (first second : List ℕ) (size : ℕ) → Lim t → Lim (stepOf t s note r first second size .token)
+pub step-in : (t : Token) (s : List ℕ) (note : Note) (r : Answered) (first second : List ℕ) (size : ℕ) → InLimits t → InLimits (stepOf t s note r first second size .token)
 unfolding stepOf
-step-in t s note r first second size l = of-both (λ (z : Stepped). Lim (z .token)) (ltb size room) l (happened-in t s note r first second l)
+step-in t s note r first second size l = of-both (λ (z : Stepped). InLimits (z .token)) (ltb size room) l (happened-in t s note r first second l)
 
-pub start-in : (h : Points) (d : Day) → pointsFit h && dayFits d ≡ true → Lim (startOf h d)
+pub start-in : (h : Points) (d : Day) → pointsFit h && dayFits d ≡ true → InLimits (startOf h d)
 unfolding startOf noChain noKey
 start-in h d e =
     record {
@@ -457,12 +423,12 @@ start-in h d e =
     }
 
 -- an accepted personalisation makes the start values, within the limits
-pub made-in : (h : Points) (d : Day) → madeOf h d .made ≡ Accepted → (madeOf h d .token ≡ startOf h d) × Lim (startOf h d)
+pub made-in : (h : Points) (d : Day) → madeOf h d .made ≡ Accepted → (madeOf h d .token ≡ startOf h d) × InLimits (startOf h d)
 unfolding madeOf
 made-in h d = go (pointsFit h && dayFits d) refl
   where
     go : (b : Bool) → pointsFit h && dayFits d ≡ b
         → cond {A = Personalised} b (record { made = Accepted; token = startOf h d }) (record { made = Unfit; token = noToken }) .made ≡ Accepted
-        → (cond {A = Personalised} b (record { made = Accepted; token = startOf h d }) (record { made = Unfit; token = noToken }) .token ≡ startOf h d) × Lim (startOf h d)
+        → (cond {A = Personalised} b (record { made = Accepted; token = startOf h d }) (record { made = Unfit; token = noToken }) .token ≡ startOf h d) × InLimits (startOf h d)
     go true e q = (refl, start-in h d e)
     go false e q = true-false (cc)

@@ -1,12 +1,12 @@
 -- The token and the rule agree: an invariant between the token and the rule's own functions, kept by every event.
 -- Assumes nothing.
-use Prim.Native.Nat.{ℕ, suc}
+use Prim.Native.Nat.{ℕ, suc, _-_}
 use mathlib.Core.Bool.{Bool, true, false, cond, not, _&&_, _||_}
 use mathlib.Core.Path.{_≡_, refl, sym, ap, subst, _∙_}
 use mathlib.Core.Option.{Option, none, some}
 use mathlib.Core.List.{List, [], _∷_}
 use borrow.Author.Tests.{not-true}
-use lib.Dec.{eqb, leb}
+use lib.Dec.{leb}
 use Rattle.laws.proofs.Bools.{true-false, and-r, or-then}
 use Rattle.names.specs.Names.{sameName}
 use Rattle.rights.specs.Rights.{roleOf}
@@ -27,7 +27,7 @@ use Rattle.run.specs.declared.Password.{Password}
 use Rattle.run.specs.declared.Choice.{Choice}
 use Rattle.run.specs.declared.Step.{Step}
 use Rattle.run.specs.declared.Step.the-variants.{Nonce, Map, Agree, Confirm}
-use Rattle.run.specs.Run.{passwordOf, rightsNamed, isLast, nextStep}
+use Rattle.run.specs.Run.{passwordOf, rightsNamed, stepNumber, isLast, nextStep}
 use Rattle.event.specs.declared.Event.{Event}
 use Rattle.trust.specs.Trust.{anchorFits, pointsFit, linked}
 use Rattle.trust.specs.declared.Points.{Points}
@@ -40,24 +40,18 @@ use Rattle.standing.specs.declared.Chain.{Chain}
 use Rattle.standing.specs.declared.Stage.{Stage}
 use Rattle.standing.specs.declared.Stage.the-variants.{Idle, Run, Announced as AtAnnounced, Challenged as AtChallenged, Proven as AtProven, ChipKeyChosen as AtChosen, Authenticated as AtAuthenticated}
 use Rattle.session.specs.declared.Context.{Context}
-use Rattle.standing.specs.Standing.{reachesDv, hasRights, hasDv, hasTerminal, noChain, rank, told, unproven, isAuthenticated}
+use Rattle.standing.specs.Standing.{reachesDv, hasDv, noChain, fromAnnounced, fromChallenged, fromProven, isAuthenticated}
+use Rattle.standing.proofs.Stages.{challenged-is, Challengeable, when-announced, when-challenged, challengeable, Choosable, when-proven, when-chosen, choosable}
 use Rattle.session.specs.Session.{bareSession}
 use Rattle.token.specs.declared.state.Token.{Token}
-use Rattle.token.specs.State.{resetOf, startOf, contextOf, chainOf}
-use Rattle.token.specs.After.{choiceTaken, staged, stepPassed, opened, runClosed, trialLost, issuerSelected, linkTaken, dvTaken, extended, terminalTaken, announced, unblocked, unblockedByPuk, activated, afterOf}
-use Rattle.reached.proofs.Fits.{Lim, Holds, as-newest, as-previous, Fits, is-refused, is-lost, is-chosen, is-stepped, is-opened, is-closed, is-fell, is-selected, is-linked, is-deputed, is-completed, is-announced, is-challenged, is-proven, is-disproved, is-chip, is-authenticated, is-chip-lost, not-passed, is-read, is-changed, is-unblocked-puk, is-unblocked, is-activated, is-deactivated}
-use Rattle.record.specs.Rule.{Fact, Taken, StepPassed, ChipPassed, Accepted, Announced, Challenged, Proved, Disproved, Lost, Nothing, Held, linkedBy, held, rightsIn, lastChoice, steps, naming, named, ruleA, Dv, Trio, under, lastDv, ruleB, orElse, dvBy, announcement, challenge, ruleC, ruleD}
-use Rattle.record.specs.Claim.{anchors}
+use Rattle.token.specs.State.{resetOf, startOf, contextOf}
+use Rattle.token.specs.After.{choiceTaken, staged, stepPassed, opened, runClosed, trialLost, issuerSelected, linkTaken, dvTaken, extended, terminalTaken, announced, unblocked, unblockedByPuk, afterOf}
+use Rattle.reached.proofs.Fits.{InLimits, Holds, as-newest, as-previous, Fits, is-refused, is-lost, is-chosen, is-stepped, is-opened, is-run-closed, is-trial-lost, is-selected, is-link-taken, is-dv-taken, is-terminal-taken, is-announced, is-challenged, is-proven, is-proof-lost, is-chip-key-chosen, is-authenticated, is-chip-lost, not-passed, is-read, is-changed, is-unblocked-puk, is-unblocked, is-activated, is-deactivated}
+use Rattle.record.specs.Rule.{Fact, Taken, StepPassed, ChipPassed, Accepted, Announced, Challenged, Proved, ProofFailed, Lost, Nothing, Held, linkedBy, held, rightsIn, lastChoice, steps, naming, named, ruleA, Dv, ChainRights, under, lastDv, ruleB, orElse, dvBy, announcement, challenge, ruleC, ruleD}
+use Rattle.record.specs.Claim.{trustPoints}
 use Rattle.record.proofs.Words.{factAt}
 
 -- ---- what a session holds, in the rule's terms
-
--- a challenge stands; the terminal is proven
-abbrev pub dared : Stage → Bool
-dared s = leb 3 (rank s)
-
-abbrev pub proven : Stage → Bool
-proven s = leb 4 (rank s)
 
 abbrev pub confirmedBy : Opened → Granted → Option (Password × Rights)
 confirmedBy Nobody g = none
@@ -66,22 +60,20 @@ confirmedBy (By w) g = naming w g
 -- the DV, if there is one, is the record's latest
 abbrev pub Below : Reach → Point → Option Dv → Type 0
 Below Empty d o = Unit {0}
-Below (ToDv root) d o = o ≡ some (record { anchor = some root; name = d .name; rights = d .rights })
-Below (ToTerminal root) d o = o ≡ some (record { anchor = some root; name = d .name; rights = d .rights })
+Below (ToDv root) d o = o ≡ some (record { trusted = some root; name = d .name; rights = d .rights })
+Below (ToTerminal root) d o = o ≡ some (record { trusted = some root; name = d .name; rights = d .rights })
 
-abbrev pub trioOf : Reach → Point → Point → Option Trio
-trioOf Empty d u = none
-trioOf (ToDv root) d u = none
-trioOf (ToTerminal root) d u = some (record { anchor = root; dv = d .rights; terminal = u .rights })
+abbrev pub chainRightsOf : Reach → Point → Point → Option ChainRights
+chainRightsOf Empty d u = none
+chainRightsOf (ToDv root) d u = none
+chainRightsOf (ToTerminal root) d u = some (record { trusted = root; dv = d .rights; terminal = u .rights })
 
+-- the steps passed before this one
 abbrev pub turns : Step → ℕ
-turns Nonce = 0
-turns Map = 1
-turns Agree = 2
-turns Confirm = 3
+turns s = stepNumber s - 1
 
 -- in a run the choice is the record's last, and its steps are those passed so far
-abbrev pub Running : Stage → Option Choice → ℕ → Option Trio → Type 0
+abbrev pub Running : Stage → Option Choice → ℕ → Option ChainRights → Type 0
 Running Idle c m b = Unit {0}
 Running (Run c s) o m b = (o ≡ some c) × (m ≡ turns s) × (b ≡ none)
 Running AtAnnounced c m b = Unit {0}
@@ -91,65 +83,17 @@ Running AtChosen c m b = Unit {0}
 Running AtAuthenticated c m b = Unit {0}
 
 pub record Inv (h : Held) (ps : Points) (c : Context) (r : List Fact) : Type 0 where
-  pub points : anchors ps ≡ held h r
+  pub points : trustPoints ps ≡ held h r
   pub rights : confirmedBy (c .opened) (c .confirmed) ≡ ruleA r
-  pub deputy : Below (c .chain .reach) (c .chain .dv) (lastDv h r)
-  pub trio : trioOf (c .chain .reach) (c .chain .dv) (c .chain .terminal) ≡ ruleB h r
-  pub ann : told (c .stage) ≡ announcement r
-  pub chal : dared (c .stage) ≡ challenge r
-  pub prov : proven (c .stage) ≡ ruleC r
+  pub dv : Below (c .chain .reach) (c .chain .dv) (lastDv h r)
+  pub chain : chainRightsOf (c .chain .reach) (c .chain .dv) (c .chain .terminal) ≡ ruleB h r
+  pub ann : fromAnnounced (c .stage) ≡ announcement r
+  pub chal : fromChallenged (c .stage) ≡ challenge r
+  pub prov : fromProven (c .stage) ≡ ruleC r
   pub auth : isAuthenticated (c .stage) ≡ ruleD r
   pub run : Running (c .stage) (lastChoice r) (steps r) (ruleB h r)
 
 -- ---- small facts
-
-unproven-auth : (s : Stage) → unproven s ≡ true → isAuthenticated s ≡ false
-unproven-auth Idle e = refl
-unproven-auth (Run c p) e = refl
-unproven-auth AtAnnounced e = refl
-unproven-auth AtChallenged e = refl
-unproven-auth AtProven e = refl
-unproven-auth AtChosen e = refl
-unproven-auth AtAuthenticated e = sym e
-
--- the tests on the stage
-at-three : (s : Stage) → eqb (rank s) 3 ≡ true → s ≡ AtChallenged
-at-three Idle e = true-false (sym e)
-at-three (Run c p) e = true-false (sym e)
-at-three AtAnnounced e = true-false (sym e)
-at-three AtChallenged e = refl
-at-three AtProven e = true-false (sym e)
-at-three AtChosen e = true-false (sym e)
-at-three AtAuthenticated e = true-false (sym e)
-
-record Told (s : Stage) : Type 0 where
-  is-told : told s ≡ true
-  is-unproven : proven s ≡ false
-  is-unauth : isAuthenticated s ≡ false
-
-at-told : (s : Stage) → eqb (rank s) 2 || eqb (rank s) 3 ≡ true → Told s
-at-told Idle e = true-false (sym e)
-at-told (Run c p) e = true-false (sym e)
-at-told AtAnnounced e = record { is-told = refl; is-unproven = refl; is-unauth = refl }
-at-told AtChallenged e = record { is-told = refl; is-unproven = refl; is-unauth = refl }
-at-told AtProven e = true-false (sym e)
-at-told AtChosen e = true-false (sym e)
-at-told AtAuthenticated e = true-false (sym e)
-
-record Shown (s : Stage) : Type 0 where
-  is-told : told s ≡ true
-  is-dared : dared s ≡ true
-  is-proven : proven s ≡ true
-  is-unauth : isAuthenticated s ≡ false
-
-at-shown : (s : Stage) → eqb (rank s) 4 || eqb (rank s) 5 ≡ true → Shown s
-at-shown Idle e = true-false (sym e)
-at-shown (Run c p) e = true-false (sym e)
-at-shown AtAnnounced e = true-false (sym e)
-at-shown AtChallenged e = true-false (sym e)
-at-shown AtProven e = record { is-told = refl; is-dared = refl; is-proven = refl; is-unauth = refl }
-at-shown AtChosen e = record { is-told = refl; is-dared = refl; is-proven = refl; is-unauth = refl }
-at-shown AtAuthenticated e = true-false (sym e)
 
 -- a trust point that is held is found by its name
 differ : (ps : Points) → pointsFit ps ≡ true → ps .two ≡ true → sameName (ps .previous .name) (ps .newest .name) ≡ false
@@ -160,7 +104,7 @@ differ ps f two =
     (or-then (ps .two) (anchorFits (ps .previous) && not (sameName (ps .previous .name) (ps .newest .name)))
     (and-r (anchorFits (ps .newest)) (not (ps .two) || (anchorFits (ps .previous) && not (sameName (ps .previous .name) (ps .newest .name)))) f) two))
 
-found : (ps : Points) {p : Point} (n : Name) → pointsFit ps ≡ true → Holds ps p → sameName n (p .name) ≡ true → rightsIn (anchors ps) n ≡ some (p .rights)
+found : (ps : Points) {p : Point} (n : Name) → pointsFit ps ≡ true → Holds ps p → sameName n (p .name) ≡ true → rightsIn (trustPoints ps) n ≡ some (p .rights)
 found ps n f as-newest e = rw e
 found ps n f (as-previous two) e = rw (same-for n (ps .previous .name) (ps .newest .name) e ∙ differ ps f two, two, e)
 
@@ -175,6 +119,12 @@ few x Map e = ap (λ (k : ℕ). cond (leb 4 k) x none) e
 few x Agree e = ap (λ (k : ℕ). cond (leb 4 k) x none) e
 few x Confirm e = ap (λ (k : ℕ). cond (leb 4 k) x none) e
 
+next : (s : Step) → isLast s ≡ false → suc (turns s) ≡ turns (nextStep s)
+next Nonce e = refl
+next Map e = refl
+next Agree e = refl
+next Confirm e = true-false e
+
 -- the same session at another stage
 abbrev at : Context → Stage → Context
 at c s = record { opened = c .opened; confirmed = c .confirmed; chain = c .chain; stage = s; key = c .key }
@@ -188,22 +138,32 @@ module _ {h : Held} {ps : Points} {r : List Fact} where
 
   -- nothing that counts
   pub quiet : {c : Context} → Inv h ps c r → Inv h ps c (Nothing ∷ r)
-  quiet i = record { points = i .points; rights = i .rights; deputy = i .deputy; trio = i .trio; ann = i .ann; chal = i .chal; prov = i .prov; auth = i .auth; run = i .run }
+  quiet i = record { points = i .points; rights = i .rights; dv = i .dv; chain = i .chain; ann = i .ann; chal = i .chal; prov = i .prov; auth = i .auth; run = i .run }
 
   lost : {c : Context} → Inv h ps c r → Inv h ps (bareSession Nobody NoRights Idle .context) (Lost ∷ r)
   unfolding noChain
-  lost i = record { points = i .points; rights = refl; deputy = tt; trio = refl; ann = refl; chal = refl; prov = refl; auth = refl; run = tt }
+  lost i = record { points = i .points; rights = refl; dv = tt; chain = refl; ann = refl; chal = refl; prov = refl; auth = refl; run = tt }
 
   taken : (o : Opened) (d : Choice) {c : Context} → Inv h ps c r → Inv h ps (bareSession o NoRights (Run d Nonce) .context) (Taken d ∷ r)
   unfolding noChain
-  taken o d i = record { points = i .points; rights = no-rights o; deputy = tt; trio = refl; ann = refl; chal = refl; prov = refl; auth = refl; run = (refl, refl, refl) }
+  taken o d i = record { points = i .points; rights = no-rights o; dv = tt; chain = refl; ann = refl; chal = refl; prov = refl; auth = refl; run = (refl, refl, refl) }
 
   module _ (c : Context) (d : Choice) where
+    -- another step is passed, and not the last
     stepped : (s : Step) → isLast s ≡ false → Inv h ps (at c (Run d s)) r → Inv h ps (at c (Run d (nextStep s))) (StepPassed ∷ r)
-    stepped Nonce e i = record { points = i .points; rights = i .rights ∙ few (named (lastChoice r)) Nonce (i .run .1) ∙ sym (few (named (lastChoice r)) Map (ap suc (i .run .1))); deputy = i .deputy; trio = i .trio; ann = i .ann; chal = i .chal; prov = i .prov; auth = i .auth; run = (i .run .0, ap suc (i .run .1), i .run .2) }
-    stepped Map e i = record { points = i .points; rights = i .rights ∙ few (named (lastChoice r)) Map (i .run .1) ∙ sym (few (named (lastChoice r)) Agree (ap suc (i .run .1))); deputy = i .deputy; trio = i .trio; ann = i .ann; chal = i .chal; prov = i .prov; auth = i .auth; run = (i .run .0, ap suc (i .run .1), i .run .2) }
-    stepped Agree e i = record { points = i .points; rights = i .rights ∙ few (named (lastChoice r)) Agree (i .run .1) ∙ sym (few (named (lastChoice r)) Confirm (ap suc (i .run .1))); deputy = i .deputy; trio = i .trio; ann = i .ann; chal = i .chal; prov = i .prov; auth = i .auth; run = (i .run .0, ap suc (i .run .1), i .run .2) }
-    stepped Confirm e i = true-false e
+    stepped s e i =
+        let n : suc (steps r) ≡ turns (nextStep s) = ap suc (i .run .1) ∙ next s e in
+        record {
+          points = i .points;
+          rights = i .rights ∙ few (named (lastChoice r)) s (i .run .1) ∙ sym (few (named (lastChoice r)) (nextStep s) n);
+          dv = i .dv;
+          chain = i .chain;
+          ann = i .ann;
+          chal = i .chal;
+          prov = i .prov;
+          auth = i .auth;
+          run = (i .run .0, n, i .run .2);
+        }
 
     open-now : (s : Step) → isLast s ≡ true → Inv h ps (at c (Run d s)) r → Inv h ps (bareSession (By (passwordOf d)) (rightsNamed d) Idle .context) (StepPassed ∷ r)
     unfolding noChain
@@ -214,8 +174,8 @@ module _ {h : Held} {ps : Points} {r : List Fact} where
         record {
           points = i .points;
           rights = sym (ap (λ (m : ℕ). cond (leb 4 (suc m)) (named (lastChoice r)) none) (i .run .1) ∙ ap named (i .run .0));
-          deputy = tt;
-          trio = sym (i .run .2);
+          dv = tt;
+          chain = sym (i .run .2);
           ann = i .ann;
           chal = i .chal;
           prov = i .prov;
@@ -226,29 +186,26 @@ module _ {h : Held} {ps : Points} {r : List Fact} where
     closed : (o : Opened) (s : Step) → Inv h ps (at c (Run d s)) r → Inv h ps (bareSession o NoRights Idle .context) (Nothing ∷ r)
     unfolding noChain
     closed o s i =
-        record { points = i .points; rights = no-rights o ∙ sym (few (named (lastChoice r)) s (i .run .1)); deputy = tt; trio = sym (i .run .2); ann = i .ann; chal = i .chal; prov = i .prov; auth = i .auth; run = tt }
+        record { points = i .points; rights = no-rights o ∙ sym (few (named (lastChoice r)) s (i .run .1)); dv = tt; chain = sym (i .run .2); ann = i .ann; chal = i .chal; prov = i .prov; auth = i .auth; run = tt }
 
-  module _ (c : Context) (n : Name) (p : Point) (u : unproven (c .stage) ≡ true) (i : Inv h ps c r) where
-    no-auth : false ≡ ruleD (Accepted n p ∷ r)
-    no-auth = sym (unproven-auth (c .stage) u) ∙ i .auth
-
+  module _ (c : Context) (n : Name) (p : Point) (i : Inv h ps c r) where
     -- a chain, where the certificate tells of points, DV and terminal
-    accepted : (qs : Points) (d : Chain) → anchors qs ≡ held h (Accepted n p ∷ r) → Below (d .reach) (d .dv) (lastDv h (Accepted n p ∷ r)) → trioOf (d .reach) (d .dv) (d .terminal) ≡ ruleB h (Accepted n p ∷ r)
+    accepted : (qs : Points) (d : Chain) → trustPoints qs ≡ held h (Accepted n p ∷ r) → Below (d .reach) (d .dv) (lastDv h (Accepted n p ∷ r)) → chainRightsOf (d .reach) (d .dv) (d .terminal) ≡ ruleB h (Accepted n p ∷ r)
         → Inv h qs (record { opened = c .opened; confirmed = c .confirmed; chain = d; stage = Idle; key = noKey }) (Accepted n p ∷ r)
-    accepted qs d e f g = record { points = e; rights = i .rights; deputy = f; trio = g; ann = refl; chal = refl; prov = refl; auth = no-auth; run = tt }
+    accepted qs d e f g = record { points = e; rights = i .rights; dv = f; chain = g; ann = refl; chal = refl; prov = refl; auth = refl; run = tt }
 
     -- what each role leaves of the points, and of a terminal
-    held-by : (o : Role) → roleOf (p .rights) ≡ o → held h (Accepted n p ∷ r) ≡ linkedBy (anchors ps) p o
+    held-by : (o : Role) → roleOf (p .rights) ≡ o → held h (Accepted n p ∷ r) ≡ linkedBy (trustPoints ps) p o
     held-by o e = ap (λ (x : Role). linkedBy (held h r) p x) e ∙ ap (λ (x : Held). linkedBy x p o) (sym (i .points))
 
     none-under : (o : Role) → roleOf (p .rights) ≡ o → under (lastDv h r) n p o ≡ none → none ≡ ruleB h (Accepted n p ∷ r)
-    none-under o e f = sym (ap (λ (x : Role). orElse (under (lastDv h r) n p x) none) e ∙ ap (λ (x : Option Trio). orElse x none) f)
+    none-under o e f = sym (ap (λ (x : Role). orElse (under (lastDv h r) n p x) none) e ∙ ap (λ (x : Option ChainRights). orElse x none) f)
 
     linked-now : (k : ℕ) → roleOf (p .rights) ≡ Cvca → Inv h (linked ps (withKey p k)) (record { opened = c .opened; confirmed = c .confirmed; chain = noChain; stage = Idle; key = noKey }) (Accepted n p ∷ r)
     unfolding noChain linked withKey
     linked-now k e = accepted (linked ps (withKey p k)) noChain (sym (held-by Cvca e)) tt (none-under Cvca e refl)
 
-    dv-at : (o : Role) → roleOf (p .rights) ≡ o → lastDv h (Accepted n p ∷ r) ≡ orElse (dvBy (anchors ps) n p o) (lastDv h r)
+    dv-at : (o : Role) → roleOf (p .rights) ≡ o → lastDv h (Accepted n p ∷ r) ≡ orElse (dvBy (trustPoints ps) n p o) (lastDv h r)
     dv-at o e = ap (λ (x : Role). orElse (dvBy (held h r) n p x) (lastDv h r)) e ∙ ap (λ (x : Held). orElse (dvBy x n p o) (lastDv h r)) (sym (i .points))
 
     deputed-now : {q : Point} (k : ℕ) → pointsFit ps ≡ true → isDv (roleOf (p .rights)) ≡ true → Holds ps q → sameName n (q .name) ≡ true
@@ -257,7 +214,7 @@ module _ {h : Held} {ps : Points} {r : List Fact} where
     deputed-now {q} k f e g s = go (roleOf (p .rights)) refl e
       where
         at-dv : Option Rights → Option Dv
-        at-dv x = some (record { anchor = x; name = p .name; rights = p .rights })
+        at-dv x = some (record { trusted = x; name = p .name; rights = p .rights })
 
         go : (o : Role) → roleOf (p .rights) ≡ o → isDv o ≡ true
             → Inv h ps (record { opened = c .opened; confirmed = c .confirmed; chain = record { reach = ToDv (q .rights); dv = withKey p k; terminal = noPoint }; stage = Idle; key = noKey }) (Accepted n p ∷ r)
@@ -269,15 +226,15 @@ module _ {h : Held} {ps : Points} {r : List Fact} where
     completed-now : (k : ℕ) → roleOf (p .rights) ≡ Terminal → hasDv (c .chain) ≡ true → sameName n (c .chain .dv .name) ≡ true
         → Inv h ps (record { opened = c .opened; confirmed = c .confirmed; chain = record { reach = extended (c .chain .reach); dv = c .chain .dv; terminal = withKey p k }; stage = Idle; key = noKey }) (Accepted n p ∷ r)
     unfolding withKey
-    completed-now k e f s = go (c .chain .reach) f (i .deputy)
+    completed-now k e f s = go (c .chain .reach) f (i .dv)
       where
-        under-dv : (root : Rights) → lastDv h r ≡ some (record { anchor = some root; name = c .chain .dv .name; rights = c .chain .dv .rights })
-            → ruleB h (Accepted n p ∷ r) ≡ some (record { anchor = root; dv = c .chain .dv .rights; terminal = p .rights })
+        under-dv : (root : Rights) → lastDv h r ≡ some (record { trusted = some root; name = c .chain .dv .name; rights = c .chain .dv .rights })
+            → ruleB h (Accepted n p ∷ r) ≡ some (record { trusted = root; dv = c .chain .dv .rights; terminal = p .rights })
         under-dv root d =
             ap (λ (x : Role). orElse (under (lastDv h r) n p x) none) e ∙ ap (λ (x : Option Dv). orElse (under x n p Terminal) none) d
-            ∙ ap (λ (b : Bool). orElse (cond b (some (record { anchor = root; dv = c .chain .dv .rights; terminal = p .rights })) none) none) s
+            ∙ ap (λ (b : Bool). orElse (cond b (some (record { trusted = root; dv = c .chain .dv .rights; terminal = p .rights })) none) none) s
 
-        with-root : (root : Rights) → lastDv h r ≡ some (record { anchor = some root; name = c .chain .dv .name; rights = c .chain .dv .rights })
+        with-root : (root : Rights) → lastDv h r ≡ some (record { trusted = some root; name = c .chain .dv .name; rights = c .chain .dv .rights })
             → Inv h ps (record { opened = c .opened; confirmed = c .confirmed; chain = record { reach = ToTerminal root; dv = c .chain .dv; terminal = withKey p k }; stage = Idle; key = noKey }) (Accepted n p ∷ r)
         with-root root d = accepted ps _ (sym (held-by Terminal e)) (dv-at Terminal e ∙ d) (sym (under-dv root d))
 
@@ -287,68 +244,62 @@ module _ {h : Held} {ps : Points} {r : List Fact} where
         go (ToDv root) z d = with-root root d
         go (ToTerminal root) z d = with-root root d
 
-  announced-now : (c : Context) (k : Key) → unproven (c .stage) ≡ true → Inv h ps c r
+  announced-now : (c : Context) (k : Key) → Inv h ps c r
       → Inv h ps (record { opened = c .opened; confirmed = c .confirmed; chain = c .chain; stage = AtAnnounced; key = k }) (Announced ∷ r)
-  announced-now c k u i =
-      record { points = i .points; rights = i .rights; deputy = i .deputy; trio = i .trio; ann = refl; chal = refl; prov = refl; auth = sym (unproven-auth (c .stage) u) ∙ i .auth; run = tt }
+  announced-now c k i =
+      record { points = i .points; rights = i .rights; dv = i .dv; chain = i .chain; ann = refl; chal = refl; prov = refl; auth = refl; run = tt }
 
-  challenged-now : (c : Context) → Told (c .stage) → Inv h ps c r → Inv h ps (at c AtChallenged) (Challenged ∷ r)
-  challenged-now c w i =
-      let a : announcement r ≡ true = sym (i .ann) ∙ w .is-told in
-      record { points = i .points; rights = i .rights; deputy = i .deputy; trio = i .trio; ann = sym a; chal = rw a; prov = sym (w .is-unproven) ∙ i .prov; auth = sym (w .is-unauth) ∙ i .auth; run = tt }
+  challenged-now : (c : Context) {s : Stage} → Challengeable s → Inv h ps (at c s) r → Inv h ps (at c AtChallenged) (Challenged ∷ r)
+  challenged-now c when-announced i =
+      let a : announcement r ≡ true = sym (i .ann) in
+      record { points = i .points; rights = i .rights; dv = i .dv; chain = i .chain; ann = i .ann; chal = rw a; prov = i .prov; auth = i .auth; run = tt }
+  challenged-now c when-challenged i =
+      let a : announcement r ≡ true = sym (i .ann) in
+      record { points = i .points; rights = i .rights; dv = i .dv; chain = i .chain; ann = i .ann; chal = rw a; prov = i .prov; auth = i .auth; run = tt }
 
   proved-now : (c : Context) → Inv h ps (at c AtChallenged) r → Inv h ps (at c AtProven) (Proved ∷ r)
   proved-now c i =
       let a : challenge r ≡ true = sym (i .chal) in
-      record { points = i .points; rights = i .rights; deputy = i .deputy; trio = i .trio; ann = i .ann; chal = i .chal; prov = rw a; auth = i .auth; run = tt }
+      record { points = i .points; rights = i .rights; dv = i .dv; chain = i .chain; ann = i .ann; chal = i .chal; prov = rw a; auth = i .auth; run = tt }
 
-  disproved-now : (c : Context) → Inv h ps (at c AtChallenged) r → Inv h ps (at c AtAnnounced) (Disproved ∷ r)
-  disproved-now c i = record { points = i .points; rights = i .rights; deputy = i .deputy; trio = i .trio; ann = i .ann; chal = refl; prov = refl; auth = i .auth; run = tt }
+  disproved-now : (c : Context) → Inv h ps (at c AtChallenged) r → Inv h ps (at c AtAnnounced) (ProofFailed ∷ r)
+  disproved-now c i = record { points = i .points; rights = i .rights; dv = i .dv; chain = i .chain; ann = i .ann; chal = refl; prov = refl; auth = refl; run = tt }
 
-  chip-now : (c : Context) → Shown (c .stage) → Inv h ps c r → Inv h ps (at c AtChosen) (Nothing ∷ r)
-  chip-now c w i =
-      record {
-        points = i .points;
-        rights = i .rights;
-        deputy = i .deputy;
-        trio = i .trio;
-        ann = sym (w .is-told) ∙ i .ann;
-        chal = sym (w .is-dared) ∙ i .chal;
-        prov = sym (w .is-proven) ∙ i .prov;
-        auth = sym (w .is-unauth) ∙ i .auth;
-        run = tt;
-      }
+  -- a chip key may be chosen, and chosen again: nothing of the rule changes
+  chip-now : (c : Context) {s : Stage} → Choosable s → Inv h ps (at c s) r → Inv h ps (at c AtChosen) (Nothing ∷ r)
+  chip-now c when-proven i = record { points = i .points; rights = i .rights; dv = i .dv; chain = i .chain; ann = i .ann; chal = i .chal; prov = i .prov; auth = i .auth; run = tt }
+  chip-now c when-chosen i = quiet i
 
   authenticated-now : (c : Context) → Inv h ps (at c AtChosen) r → Inv h ps (at c AtAuthenticated) (ChipPassed ∷ r)
   authenticated-now c i =
       let a : ruleC r ≡ true = sym (i .prov) in
-      record { points = i .points; rights = i .rights; deputy = i .deputy; trio = i .trio; ann = i .ann; chal = i .chal; prov = i .prov; auth = rw a; run = tt }
+      record { points = i .points; rights = i .rights; dv = i .dv; chain = i .chain; ann = i .ann; chal = i .chal; prov = i .prov; auth = rw a; run = tt }
 
   chip-lost-now : (c : Context) → Inv h ps (at c AtChosen) r → Inv h ps (at c AtProven) (Nothing ∷ r)
-  chip-lost-now c i = record { points = i .points; rights = i .rights; deputy = i .deputy; trio = i .trio; ann = i .ann; chal = i .chal; prov = i .prov; auth = i .auth; run = tt }
+  chip-lost-now c i = record { points = i .points; rights = i .rights; dv = i .dv; chain = i .chain; ann = i .ann; chal = i .chal; prov = i .prov; auth = i .auth; run = tt }
 
 -- one event
 abbrev pub Agrees : Held → Token → List Fact → Type 0
 Agrees h t r = Inv h (t .points) (contextOf t) r
 
-pub keep : {h : Held} (t : Token) {r : List Fact} {a : Asked} {e : Event} {p : Point} {k : Key} → Lim t → Fits t a e p k → Agrees h t r → Agrees h (afterOf t e p k) (factAt a e ∷ r)
-unfolding afterOf resetOf choiceTaken staged stepPassed opened runClosed trialLost issuerSelected linkTaken dvTaken terminalTaken announced unblocked unblockedByPuk activated
+pub keep : {h : Held} (t : Token) {r : List Fact} {a : Asked} {e : Event} {p : Point} {k : Key} → InLimits t → Fits t a e p k → Agrees h t r → Agrees h (afterOf t e p k) (factAt a e ∷ r)
+unfolding afterOf resetOf choiceTaken staged stepPassed opened runClosed trialLost issuerSelected linkTaken dvTaken terminalTaken announced unblocked unblockedByPuk
 keep t l is-refused i = quiet i
 keep t l is-lost i = lost i
 keep t l (is-chosen {c = c} q e) i = taken (contextOf t .opened) c i
 keep t l (is-stepped {c = c} {s = s} q e f) i = stepped (contextOf t) c s f (known (contextOf t) e i)
 keep t l (is-opened {c = c} {s = s} q e f) i = open-now (contextOf t) c s f (known (contextOf t) e i)
-keep t l (is-closed {c = c} {s = s} q e) i = closed (contextOf t) c (contextOf t .opened) s (known (contextOf t) e i)
-keep t l (is-fell {c = c} {s = s} q e) i = closed (contextOf t) c (contextOf t .opened) s (known (contextOf t) e i)
+keep t l (is-run-closed {c = c} {s = s} q e) i = closed (contextOf t) c (contextOf t .opened) s (known (contextOf t) e i)
+keep t l (is-trial-lost {c = c} {s = s} q e) i = closed (contextOf t) c (contextOf t .opened) s (known (contextOf t) e i)
 keep t l (is-selected q e) i = quiet i
-keep t {a = a} l (is-linked n q c r k) i = linked-now (contextOf t) (a .name) (a .point) (and-r (hasRights (contextOf t .confirmed)) (unproven (contextOf t .stage)) c) i n r
-keep t {a = a} l (is-deputed n q c r k h e) i = deputed-now (contextOf t) (a .name) (a .point) (and-r (hasRights (contextOf t .confirmed)) (unproven (contextOf t .stage)) c) i n (l .points) r h e
-keep t {a = a} l (is-completed n q c r h e) i = completed-now (contextOf t) (a .name) (a .point) (and-r (hasRights (contextOf t .confirmed)) (unproven (contextOf t .stage)) c) i n r h e
-keep t l (is-announced q e) i = announced-now (contextOf t) _ (and-r (hasTerminal (chainOf t)) (unproven (contextOf t .stage)) e) i
-keep t l (is-challenged q e) i = challenged-now (contextOf t) (at-told (contextOf t .stage) e) i
-keep t l (is-proven q e) i = proved-now (contextOf t) (known (contextOf t) (at-three (contextOf t .stage) e) i)
-keep t l (is-disproved q e) i = disproved-now (contextOf t) (known (contextOf t) (at-three (contextOf t .stage) e) i)
-keep t l (is-chip q e) i = chip-now (contextOf t) (at-shown (contextOf t .stage) e) i
+keep t {a = a} l (is-link-taken n q c r k) i = linked-now (contextOf t) (a .name) (a .point) i n r
+keep t {a = a} l (is-dv-taken n q c r k h e) i = deputed-now (contextOf t) (a .name) (a .point) i n (l .points) r h e
+keep t {a = a} l (is-terminal-taken n q c r h e) i = completed-now (contextOf t) (a .name) (a .point) i n r h e
+keep t l (is-announced q e) i = announced-now (contextOf t) _ i
+keep t l (is-challenged q e) i = challenged-now (contextOf t) (challengeable (contextOf t .stage) e) (known (contextOf t) refl i)
+keep t l (is-proven q e) i = proved-now (contextOf t) (known (contextOf t) (challenged-is (contextOf t .stage) e) i)
+keep t l (is-proof-lost q e) i = disproved-now (contextOf t) (known (contextOf t) (challenged-is (contextOf t .stage) e) i)
+keep t l (is-chip-key-chosen q e) i = chip-now (contextOf t) (choosable (contextOf t .stage) e) (known (contextOf t) refl i)
 keep t l (is-authenticated q e) i = authenticated-now (contextOf t) (known (contextOf t) e i)
 keep t l (is-chip-lost q e) i = chip-lost-now (contextOf t) (known (contextOf t) e i)
 keep t l (not-passed q e) i = quiet i
@@ -364,6 +315,6 @@ pub reset-keeps : {h : Held} (t : Token) {r : List Fact} → Agrees h t r → Ag
 unfolding resetOf
 reset-keeps t i = lost i
 
-pub start-agrees : (ps : Points) (d : Day) → Agrees (anchors ps) (startOf ps d) []
+pub start-agrees : (ps : Points) (d : Day) → Agrees (trustPoints ps) (startOf ps d) []
 unfolding startOf noChain
-start-agrees ps d = record { points = refl; rights = refl; deputy = tt; trio = refl; ann = refl; chal = refl; prov = refl; auth = refl; run = tt }
+start-agrees ps d = record { points = refl; rights = refl; dv = tt; chain = refl; ann = refl; chal = refl; prov = refl; auth = refl; run = tt }

@@ -41,7 +41,15 @@ use Rattle.fields.specs.Asked.{askedOf, askedBy, asking, dataOf}
 use Rattle.fields.specs.declared.asked.Ask.the-variants.{Read as AskRead}
 use Rattle.fields.specs.declared.asked.Request.{Request}
 use Rattle.fields.specs.declared.asked.Request.the-variants.{Asks}
-use Rattle.reply.specs.Reply.{room}
+use Rattle.status.specs.Words.{number}
+use Rattle.reply.specs.declared.Layout.the-variants.{Bare}
+use Rattle.reply.specs.Bytes.{wordBytes}
+use Rattle.reply.specs.Reply.{room, dataOf as replyData, replyOf}
+use Rattle.answer.specs.Answer.{layoutOf, replyTo}
+use Rattle.days.specs.declared.Day.{Day}
+use Rattle.trust.specs.declared.Points.{Points}
+use Rattle.status.specs.declared.Intake.the-variants.{Accepted}
+use Rattle.token.specs.State.{madeOf}
 use Rattle.standing.specs.declared.Opened.{Opened}
 use Rattle.standing.specs.declared.Opened.the-variants.{Nobody, By}
 use Rattle.standing.specs.declared.Reach.{Reach}
@@ -49,7 +57,8 @@ use Rattle.standing.specs.declared.Reach.the-variants.{Empty, ToDv, ToTerminal}
 use Rattle.standing.specs.declared.Stage.{Stage}
 use Rattle.standing.specs.declared.Stage.the-variants.{Idle, Run, Announced as AtAnnounced, Challenged as AtChallenged, Proven as AtProven, ChipKeyChosen as AtChosen, Authenticated as AtAuthenticated}
 use Rattle.session.specs.declared.Context.{Context}
-use Rattle.standing.specs.Standing.{isOpen, openedByPin, openedByCan, hasRights, hasTerminal, reachesTerminal, noRun, told, isAuthenticated}
+use Rattle.standing.proofs.Stages.{authenticated-is}
+use Rattle.standing.specs.Standing.{fromProven, isOpen, openedByPin, openedByCan, hasRights, hasTerminal, reachesTerminal, noRun, fromAnnounced, isAuthenticated}
 use Rattle.moment.specs.Moment.{momentOf}
 use Rattle.authorization.specs.Authorization.{rootOf, confirmedOf, authorization}
 use Rattle.authorization.proofs.Authorizes.{shared-right, effective-right}
@@ -59,22 +68,22 @@ use Rattle.token.specs.Limits.{inLimits}
 use Rattle.checks.specs.Checks.{readPlan}
 use Rattle.token.specs.Plan.{commandOf, timedOf, requestedOf, guarded, planOf}
 use Rattle.token.specs.Step.{Stepped, happenedOf, nextOf, endedBy, stepOf}
-use Rattle.reached.proofs.Fits.{Lim, in-limits, fits}
-use Rattle.reached.proofs.Within.{Ctx, context-of, reset-in, step-in, made-in}
+use Rattle.reached.proofs.Fits.{InLimits, in-limits, fits}
+use Rattle.reached.proofs.Within.{InContext, context-of, reset-in, step-in, made-in}
 use Rattle.record.specs.Entries.{Exchange, Entry, Reset, Sent, prescribed, after, reached, Shown, shownAt, shown}
 use Rattle.record.specs.Rule.{Fact, factBy, factOf, factsOf, requestFact, Held, ruleA, ruleB, ruleE, readable}
-use Rattle.record.specs.Claim.{begun, anchors, ReadOf, short, extended, ReadsNow, recordSays, Decides, Claim, ClaimWithin}
+use Rattle.record.specs.Claim.{begun, trustPoints, ReadOf, short, extended, ReadsNow, recordSays, Decides, Claim, Answers, ClaimBytes, ClaimWithin}
 use Rattle.record.proofs.Words.{fact-of}
-use Rattle.record.proofs.Agree.{proven, confirmedBy, trioOf, Agrees, quiet, keep, reset-keeps, start-agrees}
+use Rattle.record.proofs.Agree.{confirmedBy, chainRightsOf, Agrees, quiet, keep, reset-keeps, start-agrees}
 
 -- ---- along a record
 
-within-one : (t : Token) (x : Entry) → Lim t → Lim (after t x)
+within-one : (t : Token) (x : Entry) → InLimits t → InLimits (after t x)
 unfolding after
 within-one t Reset l = reset-in t l
 within-one t (Sent x) l = step-in t (x .command) (x .note) (x .result) (x .first) (x .second) (x .size) l
 
-entry : {h : Held} (t : Token) {r : List Fact} (x : Entry) → Lim t → Agrees h t r → Agrees h (after t x) (factOf (shownAt t x) ∷ r)
+entry : {h : Held} (t : Token) {r : List Fact} (x : Entry) → InLimits t → Agrees h t r → Agrees h (after t x) (factOf (shownAt t x) ∷ r)
 unfolding after prescribed stepOf
 entry t Reset l i = reset-keeps t i
 entry {h} t {r} (Sent x) l i = go (ltb (x .size) room)
@@ -91,20 +100,13 @@ entry {h} t {r} (Sent x) l i = go (ltb (x .size) room)
         let g = fits t (x .command) (x .note) (x .result) (x .first) (x .second) in
         subst (λ (y : Fact). Agrees h (nextOf t e) (y ∷ r)) (sym (fact-of t (askedOf (x .command)) g)) (keep t l g i)
 
-along-in : (t : Token) (entries : List Entry) → Lim t → Lim (reached t entries)
+along-in : (t : Token) (entries : List Entry) → InLimits t → InLimits (reached t entries)
 along-in t [] l = l
 along-in t (x ∷ rest) l = along-in (after t x) rest (within-one t x l)
 
-along : {h : Held} (t : Token) (past : List Shown) (entries : List Entry) → Lim t → Agrees h t (factsOf past) → Agrees h (reached t entries) (factsOf (shown t entries past))
+along : {h : Held} (t : Token) (past : List Shown) (entries : List Entry) → InLimits t → Agrees h t (factsOf past) → Agrees h (reached t entries) (factsOf (shown t entries past))
 along t past [] l i = i
 along t past (x ∷ rest) l i = along (after t x) (shownAt t x ∷ past) rest (within-one t x l) (entry t x l i)
-
--- ---- every state that is reached is within its limits
-
-pub claim-within : ClaimWithin
-claim-within h d a entries =
-    let m = made-in h d a in
-    in-limits (along-in (begun h d) entries (subst (λ (t : Token). Lim t) (sym (m .0)) (m .1)))
 
 -- ---- a correct read is one
 
@@ -163,6 +165,27 @@ read-word t n x lo hi l w =
     rw (le-ltb (x .size) room (w .roomy), w .protected, read-plan t (x .command) n l (read-asked n lo hi (x .command) (w .bytes)))
     (ap wordOf (settled-event (readEvent (isOpen (contextOf t .opened)) (noRun (contextOf t .stage)) (readsGroup (authorization (contextOf t)) n)) (x .result) (length (x .first)) (x .second)))
 
+-- its reply is its word
+bare-reply : (h : Points) (e : Event) (size : ℕ) → layoutOf e ≡ Bare → room ≤ size → replyTo h e [] size ≡ wordBytes (number (wordOf e))
+unfolding replyTo replyOf replyData
+bare-reply h e size b r = rw (b, le-ltb size room r)
+
+read-bare : (o m b : Bool) → layoutOf (readEvent o m b) ≡ Bare
+unfolding layoutOf
+read-bare true true true = refl
+read-bare true true false = refl
+read-bare true false b = refl
+read-bare false m b = refl
+
+read-bytes : (t : Token) (n : ℕ) (x : Exchange) → 1 ≤ n → n ≤ 21 → inLimits t ≡ true → ReadsNow n x
+    → stepOf t (x .command) (x .note) (x .result) (x .first) (x .second) (x .size) .bytes
+    ≡ wordBytes (number (wordOf (readEvent (isOpen (contextOf t .opened)) (noRun (contextOf t .stage)) (readsGroup (authorization (contextOf t)) n))))
+unfolding stepOf settledBy courseOf endsBy
+read-bytes t n x lo hi l w =
+    rw (le-ltb (x .size) room (w .roomy), w .protected, read-plan t (x .command) n l (read-asked n lo hi (x .command) (w .bytes)))
+    (bare-reply _ (readEvent (isOpen (contextOf t .opened)) (noRun (contextOf t .stage)) (readsGroup (authorization (contextOf t)) n)) (x .size)
+    (read-bare (isOpen (contextOf t .opened)) (noRun (contextOf t .stage)) (readsGroup (authorization (contextOf t)) n)) (w .roomy))
+
 -- ---- 9000 exactly where all three hold
 
 allowed-word : (o m b says : Bool) → says ≡ o && m && b → Decides (wordOf (readEvent o m b)) says
@@ -172,6 +195,17 @@ allowed-word true true false says e = record { allowed = λ h. true-false (sym h
 allowed-word true false b says e = record { allowed = λ h. true-false (sym h ∙ e); said = λ h. true-false (cc) }
 allowed-word false m b says e = record { allowed = λ h. true-false (sym h ∙ e); said = λ h. true-false (cc) }
 
+-- a reply that begins with 69 is another
+other : {x y : ℕ} {A : Type 0} → 0x69 ∷ x ∷ [] ≡ 0x90 ∷ y ∷ [] → A
+other h = absurd (let z : _≡_ {A = ℕ} 0x69 0x90 = cc in omega arith)
+
+allowed-bytes : (o m b says : Bool) → says ≡ o && m && b → Answers (wordBytes (number (wordOf (readEvent o m b)))) says
+unfolding wordOf number
+allowed-bytes true true true says e = record { allowed = λ h. refl; said = λ h. e }
+allowed-bytes true true false says e = record { allowed = λ h. true-false (sym h ∙ e); said = λ h. other h }
+allowed-bytes true false b says e = record { allowed = λ h. true-false (sym h ∙ e); said = λ h. other h }
+allowed-bytes false m b says e = record { allowed = λ h. true-false (sym h ∙ e); said = λ h. other h }
+
 -- ---- the bits
 
 with-can : (c f b : Bool) → not (c && not f) && b ≡ (not c || f) && b
@@ -179,7 +213,7 @@ with-can true true b = refl
 with-can true false b = refl
 with-can false f b = refl
 
-auth-proven : (s : Stage) → isAuthenticated s ≡ proven s && isAuthenticated s
+auth-proven : (s : Stage) → isAuthenticated s ≡ fromProven s && isAuthenticated s
 auth-proven Idle = refl
 auth-proven (Run c p) = refl
 auth-proven AtAnnounced = refl
@@ -188,37 +222,19 @@ auth-proven AtProven = refl
 auth-proven AtChosen = refl
 auth-proven AtAuthenticated = refl
 
-auth-told : (s : Stage) → isAuthenticated s ≡ true → told s ≡ true
-auth-told Idle e = e
-auth-told (Run c p) e = e
-auth-told AtAnnounced e = refl
-auth-told AtChallenged e = refl
-auth-told AtProven e = refl
-auth-told AtChosen e = refl
-auth-told AtAuthenticated e = refl
-
-auth-idle : (s : Stage) → isAuthenticated s ≡ true → noRun s ≡ true
-auth-idle Idle e = refl
-auth-idle (Run c p) e = e
-auth-idle AtAnnounced e = refl
-auth-idle AtChallenged e = refl
-auth-idle AtProven e = refl
-auth-idle AtChosen e = refl
-auth-idle AtAuthenticated e = refl
-
 opener-open : (o : Opened) → openedByPin o || openedByCan o ≡ true → isOpen o ≡ true
 opener-open Nobody e = e
 opener-open (By w) e = refl
 
 -- an authenticated session has an opener, rights and a whole chain
-pub record Whole (c : Context) : Type 0 where
+record Whole (c : Context) : Type 0 where
   pub opened : isOpen (c .opened) ≡ true
   pub rights : hasRights (c .confirmed) ≡ true
   pub terminal : hasTerminal (c .chain) ≡ true
 
-whole : (c : Context) (pin : ℕ) → Ctx c pin → isAuthenticated (c .stage) ≡ true → Whole c
+whole : (c : Context) (pin : ℕ) → InContext c pin → isAuthenticated (c .stage) ≡ true → Whole c
 whole c pin x a =
-    let k = or-then (told (c .stage)) (hasRights (c .confirmed) && hasTerminal (c .chain) && keyStands (c .key)) (x .told-on) (auth-told (c .stage) a) in
+    let k = or-then (fromAnnounced (c .stage)) (hasRights (c .confirmed) && hasTerminal (c .chain) && keyStands (c .key)) (x .grounds) (ap fromAnnounced (authenticated-is (c .stage) a)) in
     let m = and-l (hasRights (c .confirmed) && hasTerminal (c .chain)) (keyStands (c .key)) k in
     let r = and-l (hasRights (c .confirmed)) (hasTerminal (c .chain)) m in
     record { opened = opener-open (c .opened) (or-then (hasRights (c .confirmed)) (openedByPin (c .opened) || openedByCan (c .opened)) (x .opener) r); rights = r; terminal = and-r (hasRights (c .confirmed)) (hasTerminal (c .chain)) m }
@@ -228,7 +244,7 @@ abbrev all : Reach → Rights → Rights → Granted → ℕ → Bool
 all x d u g k = hasRight k (rootOf x) && hasRight k d && hasRight k u && hasRight k (confirmedOf g)
 
 rule-bits : (n : ℕ) (a : Bool) (o : Opened) (g : Granted) (x : Reach) (d u : Point) → (a ≡ true → (isOpen o ≡ true) × (hasRights g ≡ true) × (reachesTerminal x ≡ true))
-    → a && not (openedByCan o && not (all x (d .rights) (u .rights) g 4)) && all x (d .rights) (u .rights) g (7 + n) ≡ a && ruleE (confirmedBy o g) (trioOf x d u) n
+    → a && not (openedByCan o && not (all x (d .rights) (u .rights) g 4)) && all x (d .rights) (u .rights) g (7 + n) ≡ a && ruleE (confirmedBy o g) (chainRightsOf x d u) n
 rule-bits n false o g x d u w = refl
 rule-bits n true Nobody g x d u w = true-false (sym (w refl .0))
 rule-bits n true (By p) NoRights x d u w = true-false (sym (w refl .1))
@@ -236,51 +252,76 @@ rule-bits n true (By p) (These r) Empty d u w = true-false (sym (w refl .2))
 rule-bits n true (By p) (These r) (ToDv root) d u w = true-false (sym (w refl .2))
 rule-bits n true (By p) (These r) (ToTerminal root) d u w = with-can (isCan p) (all (ToTerminal root) (d .rights) (u .rights) (These r) 4) (all (ToTerminal root) (d .rights) (u .rights) (These r) (7 + n))
 
-token-bits : (c : Context) (n : ℕ) → 1 ≤ n → n ≤ 21
-    → readsGroup (authorization c) n
-    ≡ isAuthenticated (c .stage) && not (openedByCan (c .opened) && not (all (c .chain .reach) (c .chain .dv .rights) (c .chain .terminal .rights) (c .confirmed) 4)) && all (c .chain .reach) (c .chain .dv .rights) (c .chain .terminal .rights) (c .confirmed) (7 + n)
+-- the token's test of group n, bit by bit
+abbrev byToken : Context → ℕ → Bool
+byToken c n =
+    isAuthenticated (c .stage)
+    && not (openedByCan (c .opened) && not (all (c .chain .reach) (c .chain .dv .rights) (c .chain .terminal .rights) (c .confirmed) 4))
+    && all (c .chain .reach) (c .chain .dv .rights) (c .chain .terminal .rights) (c .confirmed) (7 + n)
+
+token-bits : (c : Context) (n : ℕ) → 1 ≤ n → n ≤ 21 → readsGroup (authorization c) n ≡ byToken c n
 unfolding readsGroup
 token-bits c n lo hi =
     rw (le-leb 1 n lo, le-leb n 21 hi, effective-right (7 + n) c (omega arith), shared-right 4 (c .chain) (c .confirmed) (omega arith), shared-right (7 + n) (c .chain) (c .confirmed) (omega arith))
 
-passed : (s : Stage) {p a : Bool} → proven s ≡ p → isAuthenticated s ≡ a → isAuthenticated s ≡ p && a
+passed : (s : Stage) {p a : Bool} → fromProven s ≡ p → isAuthenticated s ≡ a → isAuthenticated s ≡ p && a
 passed s e f = auth-proven s ∙ rw (e, f)
 
 -- the token's right is the rule's
-agree : {h : Held} (t : Token) {r : List Fact} (n : ℕ) → 1 ≤ n → n ≤ 21 → Lim t → Agrees h t r → readsGroup (authorization (contextOf t)) n ≡ readable h r n
+agree : {h : Held} (t : Token) {r : List Fact} (n : ℕ) → 1 ≤ n → n ≤ 21 → InLimits t → Agrees h t r → readsGroup (authorization (contextOf t)) n ≡ readable h r n
 unfolding readable
 agree {h} t {r} n lo hi l i =
     let c : Context = contextOf t in
     token-bits c n lo hi
     ∙ rule-bits n (isAuthenticated (c .stage)) (c .opened) (c .confirmed) (c .chain .reach) (c .chain .dv) (c .chain .terminal)
     (λ a. let w = whole c (t .pin) (context-of c (t .pin) (l .context)) a in (w .opened, w .rights, w .terminal))
-    ∙ rw (i .rights, i .trio) (ap (λ (b : Bool). b && ruleE (ruleA r) (ruleB h r) n) (passed (c .stage) (i .prov) (i .auth)))
+    ∙ rw (i .rights, i .chain) (ap (λ (b : Bool). b && ruleE (ruleA r) (ruleB h r) n) (passed (c .stage) (i .prov) (i .auth)))
 
 -- where the right is there, a session is open and no run is
-grounds : (t : Token) (n : ℕ) → 1 ≤ n → n ≤ 21 → Lim t → readsGroup (authorization (contextOf t)) n ≡ true → (isOpen (contextOf t .opened) ≡ true) × (noRun (contextOf t .stage) ≡ true)
+grounds : (t : Token) (n : ℕ) → 1 ≤ n → n ≤ 21 → InLimits t → readsGroup (authorization (contextOf t)) n ≡ true → (isOpen (contextOf t .opened) ≡ true) × (noRun (contextOf t .stage) ≡ true)
 grounds t n lo hi l e =
     let c : Context = contextOf t in
-    let f = sym (token-bits c n lo hi) ∙ e in
-    let a = and-l (isAuthenticated (c .stage)) (not (openedByCan (c .opened) && not (all (c .chain .reach) (c .chain .dv .rights) (c .chain .terminal .rights) (c .confirmed) 4))) (and-l (isAuthenticated (c .stage) && not (openedByCan (c .opened) && not (all (c .chain .reach) (c .chain .dv .rights) (c .chain .terminal .rights) (c .confirmed) 4))) (all (c .chain .reach) (c .chain .dv .rights) (c .chain .terminal .rights) (c .confirmed) (7 + n)) f) in
-    (whole c (t .pin) (context-of c (t .pin) (l .context)) a .opened, auth-idle (c .stage) a)
+    let f : byToken c n ≡ true = sym (token-bits c n lo hi) ∙ e in
+    let a = and-l (isAuthenticated (c .stage)) _ (and-l _ _ f) in
+    (whole c (t .pin) (context-of c (t .pin) (l .context)) a .opened, ap noRun (authenticated-is (c .stage) a))
 
 -- ---- the record decides
 
+module _ (h : Points) (d : Day) (a : madeOf h d .made ≡ Accepted) (entries : List Entry) where
+  begun-in : InLimits (begun h d)
+  begun-in = let m = made-in h d a in subst (λ (t : Token). InLimits t) (sym (m .0)) (m .1)
+
+  left-in : InLimits (reached (begun h d) entries)
+  left-in = along-in (begun h d) entries begun-in
+
+  -- what the record says is what a read is asked: a session is open, no run is, and the right is there
+  says-so : (n : ℕ) → 1 ≤ n → n ≤ 21
+      → let c = contextOf (reached (begun h d) entries) in recordSays h d entries n ≡ isOpen (c .opened) && noRun (c .stage) && readsGroup (authorization c) n
+  says-so n lo hi =
+      let t : Token = reached (begun h d) entries in
+      let i : Agrees (trustPoints h) (begun h d) [] = subst (λ (t : Token). Agrees (trustPoints h) t []) (sym (made-in h d a .0)) (start-agrees h d) in
+      sym (agree t n lo hi left-in (along (begun h d) [] entries begun-in i))
+      ∙ three (isOpen (contextOf t .opened)) (noRun (contextOf t .stage)) (readsGroup (authorization (contextOf t)) n) (grounds t n lo hi left-in)
+    where
+      three : (o m b : Bool) → (b ≡ true → (o ≡ true) × (m ≡ true)) → b ≡ o && m && b
+      three true true b f = refl
+      three true false true f = sym (f refl .1)
+      three true false false f = refl
+      three false m true f = sym (f refl .0)
+      three false m false f = refl
+
 pub claim : Claim
 claim h d a entries n lo hi x w =
-    let m = made-in h d a in
-    let s : Lim (begun h d) = subst (λ (t : Token). Lim t) (sym (m .0)) (m .1) in
-    let i : Agrees (anchors h) (begun h d) [] = subst (λ (t : Token). Agrees (anchors h) t []) (sym (m .0)) (start-agrees h d) in
     let t : Token = reached (begun h d) entries in
-    let l : Lim t = along-in (begun h d) entries s in
-    let g = agree t n lo hi l (along (begun h d) [] entries s i) in
-    subst (λ (y : Word). Decides y (recordSays h d entries n)) (sym (read-word t n x lo hi (in-limits l) w))
-    (allowed-word (isOpen (contextOf t .opened)) (noRun (contextOf t .stage)) (readsGroup (authorization (contextOf t)) n) (recordSays h d entries n)
-    (sym g ∙ three (isOpen (contextOf t .opened)) (noRun (contextOf t .stage)) (readsGroup (authorization (contextOf t)) n) (grounds t n lo hi l)))
-  where
-    three : (o m b : Bool) → (b ≡ true → (o ≡ true) × (m ≡ true)) → b ≡ o && m && b
-    three true true b f = refl
-    three true false true f = sym (f refl .1)
-    three true false false f = refl
-    three false m true f = sym (f refl .0)
-    three false m false f = refl
+    subst (λ (y : Word). Decides y (recordSays h d entries n)) (sym (read-word t n x lo hi (in-limits (left-in h d a entries)) w))
+    (allowed-word (isOpen (contextOf t .opened)) (noRun (contextOf t .stage)) (readsGroup (authorization (contextOf t)) n) (recordSays h d entries n) (says-so h d a entries n lo hi))
+
+pub claim-bytes : ClaimBytes
+claim-bytes h d a entries n lo hi x w =
+    let t : Token = reached (begun h d) entries in
+    subst (λ (y : List ℕ). Answers y (recordSays h d entries n)) (sym (read-bytes t n x lo hi (in-limits (left-in h d a entries)) w))
+    (allowed-bytes (isOpen (contextOf t .opened)) (noRun (contextOf t .stage)) (readsGroup (authorization (contextOf t)) n) (recordSays h d entries n) (says-so h d a entries n lo hi))
+
+-- every state that is reached is within its limits
+pub claim-within : ClaimWithin
+claim-within h d a entries = in-limits (left-in h d a entries)

@@ -19,8 +19,8 @@ use Rattle.event.specs.Event.{refusalWord, lossWord, wordOf}
 use Rattle.fields.specs.declared.asked.Request.{Request}
 use Rattle.fields.specs.declared.asked.Asked.{Asked}
 use Rattle.token.specs.declared.state.Token.{Token}
-use Rattle.reached.proofs.Fits.{verifying, challenging, changing, Fits, is-refused, is-lost, is-chosen, is-stepped, is-opened, is-closed, is-fell, is-selected, is-linked, is-deputed, is-completed, is-announced, is-challenged, is-proven, is-disproved, is-chip, is-authenticated, is-chip-lost, not-passed, is-read, is-changed, is-unblocked-puk, is-unblocked, is-activated, is-deactivated}
-use Rattle.record.specs.Rule.{Fact, Taken, StepPassed, ChipPassed, Accepted, Announced, Challenged, Proved, Disproved, Lost, Nothing, requestFact, factBy}
+use Rattle.reached.proofs.Fits.{verifying, challenging, changing, Fits, is-refused, is-lost, is-chosen, is-stepped, is-opened, is-run-closed, is-trial-lost, is-selected, is-link-taken, is-dv-taken, is-terminal-taken, is-announced, is-challenged, is-proven, is-proof-lost, is-chip-key-chosen, is-authenticated, is-chip-lost, not-passed, is-read, is-changed, is-unblocked-puk, is-unblocked, is-activated, is-deactivated}
+use Rattle.record.specs.Rule.{Fact, Taken, StepPassed, ChipPassed, Accepted, Announced, Challenged, Proved, ProofFailed, Lost, Nothing, requestFact, factBy}
 
 -- the fact of an event
 abbrev pub factAt : Asked → Event → Fact
@@ -38,7 +38,7 @@ factAt a TerminalTaken = Accepted (a .name) (a .point)
 factAt a IsAnnounced = Announced
 factAt a IsChallenged = Challenged
 factAt a IsProven = Proved
-factAt a ProofLost = Disproved
+factAt a ProofLost = ProofFailed
 factAt a IsChosen = Nothing
 factAt a IsAuthenticated = ChipPassed
 factAt a ChipLost = Nothing
@@ -83,17 +83,17 @@ module _ (t : Token) (a : Asked) where
   fact-of (is-chosen {c = c} q e) = read a (cond (isPin (passwordOf c) && ltb (t .pin) 3) (Tries (t .pin)) Done) _ q (chosen-fact (isPin (passwordOf c) && ltb (t .pin) 3) (t .pin) c)
   fact-of (is-stepped q e f) = read a Done _ q refl
   fact-of (is-opened q e f) = read a Done _ q refl
-  fact-of (is-closed q e) = read a BadVerdict _ q refl
-  fact-of (is-fell q e) = read a (Tries (t .pin - 1)) _ q refl
+  fact-of (is-run-closed q e) = read a BadVerdict _ q refl
+  fact-of (is-trial-lost q e) = read a (Tries (t .pin - 1)) _ q refl
   fact-of (is-selected q e) = read a Done _ q refl
-  fact-of (is-linked n q c r e) = read a Done _ q refl
-  fact-of (is-deputed n q c r e h f) = read a Done _ q refl
-  fact-of (is-completed n q c r h e) = read a Done _ q refl
+  fact-of (is-link-taken n q c r e) = read a Done _ q refl
+  fact-of (is-dv-taken n q c r e h f) = read a Done _ q refl
+  fact-of (is-terminal-taken n q c r h e) = read a Done _ q refl
   fact-of (is-announced q e) = read a Done _ q refl
   fact-of (is-challenged q e) = read a Done _ q refl
   fact-of (is-proven q e) = read a Done _ q refl
-  fact-of (is-disproved q e) = read a BadVerdict _ q refl
-  fact-of (is-chip q e) = read a Done _ q refl
+  fact-of (is-proof-lost q e) = read a BadVerdict _ q refl
+  fact-of (is-chip-key-chosen q e) = read a Done _ q refl
   fact-of (is-authenticated q e) = read a Done _ q refl
   fact-of (is-chip-lost q e) = read a BadVerdict _ q refl
   fact-of (not-passed q verifying) = read a BadVerdict _ q refl

@@ -14,19 +14,20 @@ use Rattle.token.specs.declared.state.Token.{Token}
 use Rattle.status.specs.declared.Intake.the-variants.{Accepted}
 use Rattle.token.specs.State.{madeOf}
 use Rattle.token.specs.Limits.{inLimits}
+use Rattle.token.specs.Step.{stepOf}
 use Rattle.record.specs.Entries.{Exchange, Entry, prescribed, reached, shown}
-use Rattle.record.specs.Rule.{Anchor, Held, factsOf, readable}
+use Rattle.record.specs.Rule.{TrustPoint, Held, factsOf, readable}
 
 -- a token as it was personalised
 abbrev pub begun : Points → Day → Token
 begun h d = madeOf h d .token
 
 -- the names and rights of the trust points of a personalisation
-abbrev pub anchorOf : Point → Anchor
-anchorOf p = record { name = p .name; rights = p .rights }
+abbrev pub trustPoint : Point → TrustPoint
+trustPoint p = record { name = p .name; rights = p .rights }
 
-abbrev pub anchors : Points → Held
-anchors h = record { newest = anchorOf (h .newest); previous = anchorOf (h .previous); two = h .two }
+abbrev pub trustPoints : Points → Held
+trustPoints h = record { newest = trustPoint (h .newest); previous = trustPoint (h .previous); two = h .two }
 
 -- "B0, P1 80+n, any P2, Le present", in the short form and in the extended one
 pub data ReadOf (n : ℕ) : List ℕ → Type 0 where
@@ -41,7 +42,7 @@ pub record ReadsNow (n : ℕ) (x : Exchange) : Type 0 where
 
 -- "Group n is readable" by the record alone
 abbrev pub recordSays : Points → Day → List Entry → ℕ → Bool
-recordSays h d entries n = readable (anchors h) (factsOf (shown (begun h d) entries [])) n
+recordSays h d entries n = readable (trustPoints h) (factsOf (shown (begun h d) entries [])) n
 
 -- "From any accepted personalisation, after any series of commands, results and resets, a correct protected read of group n would
 -- be allowed exactly when the record alone, judged by rule (a) to (e), says so."
@@ -53,6 +54,16 @@ abbrev pub Claim : Type 0
 Claim =
     (h : Points) (d : Day) → madeOf h d .made ≡ Accepted → (entries : List Entry) (n : ℕ) → 1 ≤ n → n ≤ 21 → (x : Exchange) → ReadsNow n x
     → Decides (prescribed (reached (begun h d) entries) x) (recordSays h d entries n)
+
+-- the same said of a reply: nothing but 90 00, or another
+pub record Answers (reply : List ℕ) (says : Bool) : Type 0 where
+  pub allowed : says ≡ true → reply ≡ 0x90 ∷ 0x00 ∷ []
+  pub said : reply ≡ 0x90 ∷ 0x00 ∷ [] → says ≡ true
+
+abbrev pub ClaimBytes : Type 0
+ClaimBytes =
+    (h : Points) (d : Day) → madeOf h d .made ≡ Accepted → (entries : List Entry) (n : ℕ) → 1 ≤ n → n ≤ 21 → (x : Exchange) → ReadsNow n x
+    → Answers (stepOf (reached (begun h d) entries) (x .command) (x .note) (x .result) (x .first) (x .second) (x .size) .bytes) (recordSays h d entries n)
 
 -- no state that the product itself made is outside its limits
 abbrev pub ClaimWithin : Type 0

@@ -2,3 +2,4 @@ pub mod Entries
 pub mod Rule
 pub mod Claim
 pub mod Worked
+pub mod Judged

@@ -13,7 +13,7 @@ use Rattle.rights.specs.declared.Rights.{Rights}
 use Rattle.rights.specs.declared.Granted.{Granted}
 use Rattle.rights.specs.declared.Granted.the-variants.{These, NoRights}
 use Rattle.roles.specs.declared.Role.{Role}
-use Rattle.roles.specs.declared.Role.the-variants.{Cvca, OfficialDv, OtherDv, Terminal}
+use Rattle.roles.specs.Roles.{isCvca, isDv, isTerminal}
 use Rattle.status.specs.declared.Word.{Word}
 use Rattle.status.specs.declared.Word.the-variants.{Done, Tries, NotPassed, Length, Lacking, Blocked, Expired, Moment, Unprotected, Broken, Data, Parameters, NotFound, Instruction, Class, Outside}
 use Rattle.run.specs.declared.Password.{Password}
@@ -39,17 +39,17 @@ pub data Fact : Type 0 where
   Accepted : Name → Point → Fact
   Announced Challenged Proved : Fact
   -- a proof that failed; a reset or a lost session; all else
-  Disproved Lost Nothing : Fact
+  ProofFailed Lost Nothing : Fact
 
-abbrev pub heldFact : Content → Fact
-heldFact (Step p) = StepPassed
-heldFact Chip = ChipPassed
+abbrev pub contentFact : Content → Fact
+contentFact (Step p) = StepPassed
+contentFact Chip = ChipPassed
 
 -- what a command did where 9000 is prescribed
 abbrev pub askFact : Asked → Ask → Fact
 askFact a Bad = Nothing
 askFact a (Choose c) = Taken c
-askFact a (General x) = heldFact x
+askFact a (General x) = contentFact x
 askFact a Select = Nothing
 askFact a Verify = Accepted (a .name) (a .point)
 askFact a Announce = Announced
@@ -66,7 +66,7 @@ abbrev pub requestFact : Asked → Request → Fact
 requestFact a (Faulty w) = Nothing
 requestFact a (Asks k chained ask) = askFact a ask
 
--- which facts are which
+-- facts have no equality, so each has a number; the numbers mean nothing else
 abbrev pub sort : Fact → ℕ
 sort Nothing = 0
 sort Lost = 1
@@ -77,7 +77,7 @@ sort (Accepted n p) = 5
 sort Announced = 6
 sort Challenged = 7
 sort Proved = 8
-sort Disproved = 9
+sort ProofFailed = 9
 
 abbrev pub isLost : Fact → Bool
 isLost f = eqb (sort f) 1
@@ -103,18 +103,15 @@ isChallenged f = eqb (sort f) 7
 abbrev pub isProved : Fact → Bool
 isProved f = eqb (sort f) 8
 
-abbrev pub isDisproved : Fact → Bool
-isDisproved f = eqb (sort f) 9
-
-abbrev pub only : (Fact → Bool) → Fact → Fact
-only p f = cond (p f) f Nothing
+abbrev pub isProofFailed : Fact → Bool
+isProofFailed f = eqb (sort f) 9
 
 -- "'Accepted', 'passed' and 'taken' mean that demand 2's definition prescribes 9000 there (for a choice also 63CX);
 -- announcements and challenges count likewise; 'failed' is 6300; 'lost' is 6987 or 6988"
 abbrev pub factBy : Word → Fact → Fact
 factBy Done f = f
-factBy (Tries left) f = only isTaken f
-factBy NotPassed f = cond (isProved f) Disproved Nothing
+factBy (Tries left) f = cond (isTaken f) f Nothing
+factBy NotPassed f = cond (isProved f) ProofFailed Nothing
 factBy Unprotected f = Lost
 factBy Broken f = Lost
 factBy Length f = Nothing
@@ -137,6 +134,19 @@ abbrev pub factsOf : List Shown → List Fact
 factsOf [] = []
 factsOf (x ∷ past) = factOf x ∷ factsOf past
 
+-- what an accepted certificate gives, by its issuer's name, what it states and its role; another fact gives this
+abbrev pub certified : {A : Type 0} → A → (Name → Point → Role → A) → Fact → A
+certified x by (Accepted n p) = by n p (roleOf (p .rights))
+certified x by (Taken c) = x
+certified x by StepPassed = x
+certified x by ChipPassed = x
+certified x by Announced = x
+certified x by Challenged = x
+certified x by Proved = x
+certified x by ProofFailed = x
+certified x by Lost = x
+certified x by Nothing = x
+
 -- ---- "the last ..", "since .."
 
 abbrev pub orElse : {A : Type 0} → Option A → Option A → Option A
@@ -155,33 +165,21 @@ standing counts undoes (f ∷ past) = counts f past || (not (undoes f) && standi
 
 -- ---- the trust points held, replayed from the personalisation through the accepted links
 
-pub record Anchor : Type 0 where
+pub record TrustPoint : Type 0 where
   pub name : Name
   pub rights : Rights
 
 pub record Held : Type 0 where
-  pub newest : Anchor
-  pub previous : Anchor
+  pub newest : TrustPoint
+  pub previous : TrustPoint
   pub two : Bool
 
 -- "a link becomes newest, newest becomes previous"
 abbrev pub linkedBy : Held → Point → Role → Held
-linkedBy h p Cvca = record { newest = record { name = p .name; rights = p .rights }; previous = h .newest; two = true }
-linkedBy h p OfficialDv = h
-linkedBy h p OtherDv = h
-linkedBy h p Terminal = h
+linkedBy h p o = cond (isCvca o) (record { newest = record { name = p .name; rights = p .rights }; previous = h .newest; two = true }) h
 
 abbrev pub heldAfter : Held → Fact → Held
-heldAfter h (Accepted n p) = linkedBy h p (roleOf (p .rights))
-heldAfter h (Taken c) = h
-heldAfter h StepPassed = h
-heldAfter h ChipPassed = h
-heldAfter h Announced = h
-heldAfter h Challenged = h
-heldAfter h Proved = h
-heldAfter h Disproved = h
-heldAfter h Lost = h
-heldAfter h Nothing = h
+heldAfter h f = certified h (λ n p o. linkedBy h p o) f
 
 abbrev pub held : Held → List Fact → Held
 held start [] = start
@@ -208,7 +206,7 @@ choiceIn (Accepted n p) = none
 choiceIn Announced = none
 choiceIn Challenged = none
 choiceIn Proved = none
-choiceIn Disproved = none
+choiceIn ProofFailed = none
 choiceIn Lost = none
 choiceIn Nothing = none
 
@@ -237,64 +235,44 @@ ruleA r = cond (leb 4 (steps r)) (named (lastChoice r)) none
 
 -- a DV: the rights of its trust point as held then, its name and its rights
 pub record Dv : Type 0 where
-  pub anchor : Option Rights
+  pub trusted : Option Rights
   pub name : Name
   pub rights : Rights
 
-pub record Trio : Type 0 where
-  pub anchor : Rights
+pub record ChainRights : Type 0 where
+  pub trusted : Rights
   pub dv : Rights
   pub terminal : Rights
 
 abbrev pub dvBy : Held → Name → Point → Role → Option Dv
-dvBy h n p Cvca = none
-dvBy h n p OfficialDv = some (record { anchor = rightsIn h n; name = p .name; rights = p .rights })
-dvBy h n p OtherDv = some (record { anchor = rightsIn h n; name = p .name; rights = p .rights })
-dvBy h n p Terminal = none
+dvBy h n p o = cond (isDv o) (some (record { trusted = rightsIn h n; name = p .name; rights = p .rights })) none
 
 abbrev pub dvIn : Held → Fact → Option Dv
-dvIn h (Accepted n p) = dvBy h n p (roleOf (p .rights))
-dvIn h (Taken c) = none
-dvIn h StepPassed = none
-dvIn h ChipPassed = none
-dvIn h Announced = none
-dvIn h Challenged = none
-dvIn h Proved = none
-dvIn h Disproved = none
-dvIn h Lost = none
-dvIn h Nothing = none
+dvIn h f = certified none (dvBy h) f
 
 abbrev pub lastDv : Held → List Fact → Option Dv
 lastDv start r = latest (λ f past. dvIn (held start past) f) ends r
 
-abbrev pub trio : Option Rights → Rights → Rights → Option Trio
-trio none d t = none
-trio (some x) d t = some (record { anchor = x; dv = d; terminal = t })
+abbrev pub chainRights : Option Rights → Rights → Rights → Option ChainRights
+chainRights none d t = none
+chainRights (some x) d t = some (record { trusted = x; dv = d; terminal = t })
 
-abbrev pub under : Option Dv → Name → Point → Role → Option Trio
-under d n p Cvca = none
-under d n p OfficialDv = none
-under d n p OtherDv = none
-under none n p Terminal = none
-under (some d) n p Terminal = cond (sameName n (d .name)) (trio (d .anchor) (d .rights) (p .rights)) none
+-- a terminal's certificate, where its issuer's name is the DV's
+abbrev pub completing : Option Dv → Name → Point → Option ChainRights
+completing none n p = none
+completing (some d) n p = cond (sameName n (d .name)) (chainRights (d .trusted) (d .rights) (p .rights)) none
 
-abbrev pub terminalIn : Option Dv → Fact → Option Trio
-terminalIn d (Accepted n p) = under d n p (roleOf (p .rights))
-terminalIn d (Taken c) = none
-terminalIn d StepPassed = none
-terminalIn d ChipPassed = none
-terminalIn d Announced = none
-terminalIn d Challenged = none
-terminalIn d Proved = none
-terminalIn d Disproved = none
-terminalIn d Lost = none
-terminalIn d Nothing = none
+abbrev pub under : Option Dv → Name → Point → Role → Option ChainRights
+under d n p o = cond (isTerminal o) (completing d n p) none
+
+abbrev pub terminalIn : Option Dv → Fact → Option ChainRights
+terminalIn d f = certified none (under d) f
 
 -- a certificate accepted later ends it too
 abbrev pub endsChain : Fact → Bool
 endsChain f = ends f || isAccepted f
 
-abbrev pub ruleB : Held → List Fact → Option Trio
+abbrev pub ruleB : Held → List Fact → Option ChainRights
 ruleB start r = latest (λ f past. terminalIn (lastDv start past) f) endsChain r
 
 -- ---- (c) "then an announcement, a later challenge, and a passed proof, with no announcement or failed proof after that challenge"
@@ -303,7 +281,7 @@ abbrev pub announcement : List Fact → Bool
 announcement r = standing (λ f past. isAnnounced f) endsChain r
 
 abbrev pub endsChallenge : Fact → Bool
-endsChallenge f = endsChain f || isAnnounced f || isDisproved f
+endsChallenge f = endsChain f || isAnnounced f || isProofFailed f
 
 abbrev pub challenge : List Fact → Bool
 challenge r = standing (λ f past. isChallenged f && announcement past) endsChallenge r
@@ -311,24 +289,24 @@ challenge r = standing (λ f past. isChallenged f && announcement past) endsChal
 abbrev pub ruleC : List Fact → Bool
 ruleC r = standing (λ f past. isProved f && challenge past) endsChallenge r
 
--- ---- (d) "then a chip key passed with the announced key, nothing lost since"
+-- ---- (d) "then a chip key passed with the announced key, nothing lost since": after that proof, so what ends (c) ends it too
 
 abbrev pub ruleD : List Fact → Bool
-ruleD r = standing (λ f past. isChip f && ruleC past) ends r
+ruleD r = standing (λ f past. isChip f && ruleC past) endsChallenge r
 
 -- ---- (e) "the bits agree as above, the trust point's as held at (b)": in all four, and with the CAN bit 4 too
 
-abbrev pub inAll : Trio → Rights → ℕ → Bool
-inAll t x i = hasRight i (t .anchor) && hasRight i (t .dv) && hasRight i (t .terminal) && hasRight i x
+abbrev pub inAll : ChainRights → Rights → ℕ → Bool
+inAll t x i = hasRight i (t .trusted) && hasRight i (t .dv) && hasRight i (t .terminal) && hasRight i x
 
-abbrev pub agrees : Password → Rights → Trio → ℕ → Bool
+abbrev pub agrees : Password → Rights → ChainRights → ℕ → Bool
 agrees w x t i = (not (isCan w) || inAll t x 4) && inAll t x i
 
-abbrev pub ruleE : Option (Password × Rights) → Option Trio → ℕ → Bool
+abbrev pub ruleE : Option (Password × Rights) → Option ChainRights → ℕ → Bool
 ruleE none t n = false
 ruleE (some c) none n = false
 ruleE (some c) (some t) n = agrees (c .0) (c .1) t (7 + n)
 
--- "Group n is readable when": (a) to (e)
+-- "Group n is readable when": (a) to (e). (a) and (b) hold where they give something, and (e) asks for both
 unfoldable pub readable : Held → List Fact → ℕ → Bool
 readable start r n = ruleC r && ruleD r && ruleE (ruleA r) (ruleB start r) n

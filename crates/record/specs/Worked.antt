@@ -31,7 +31,7 @@ failed j = record { job = j; verdict = Failed }
 
 -- ---- the commands
 
--- choose the PIN for rights 0000000310, in no session and in one
+-- choose the PIN for rights 0000000310
 abbrev pub choosePin : Exchange
 choosePin = record { command = 0x00 ∷ 0x22 ∷ 0xC1 ∷ 0xA4 ∷ 0x24 ∷ 0x80 ∷ 0x0A ∷ 0x04 ∷ 0x00 ∷ 0x7F ∷ 0x00 ∷ 0x07 ∷ 0x02 ∷ 0x02 ∷ 0x04 ∷ 0x02 ∷ 0x02 ∷ 0x83 ∷ 0x01 ∷ 0x03 ∷ 0x7F ∷ 0x4C ∷ 0x12 ∷ 0x06 ∷ 0x09 ∷ 0x04 ∷ 0x00 ∷ 0x7F ∷ 0x00 ∷ 0x07 ∷ 0x03 ∷ 0x01 ∷ 0x02 ∷ 0x02 ∷ 0x53 ∷ 0x05 ∷ 0x00 ∷ 0x00 ∷ 0x00 ∷ 0x03 ∷ 0x10 ∷ []; note = Plain; result = none; first = []; second = []; size = room }
 
@@ -39,11 +39,11 @@ choosePin = record { command = 0x00 ∷ 0x22 ∷ 0xC1 ∷ 0xA4 ∷ 0x24 ∷ 0x80
 abbrev pub chooseAgain : Exchange
 chooseAgain = record { command = 0x00 ∷ 0x22 ∷ 0xC1 ∷ 0xA4 ∷ 0x24 ∷ 0x80 ∷ 0x0A ∷ 0x04 ∷ 0x00 ∷ 0x7F ∷ 0x00 ∷ 0x07 ∷ 0x02 ∷ 0x02 ∷ 0x04 ∷ 0x02 ∷ 0x02 ∷ 0x83 ∷ 0x01 ∷ 0x03 ∷ 0x7F ∷ 0x4C ∷ 0x12 ∷ 0x06 ∷ 0x09 ∷ 0x04 ∷ 0x00 ∷ 0x7F ∷ 0x00 ∷ 0x07 ∷ 0x03 ∷ 0x01 ∷ 0x02 ∷ 0x02 ∷ 0x53 ∷ 0x05 ∷ 0x00 ∷ 0x00 ∷ 0x00 ∷ 0x03 ∷ 0x10 ∷ []; note = Protected; result = none; first = []; second = []; size = room }
 
--- choose the CAN for the same rights, and for rights without bit 4
+-- choose the CAN for the same rights
 abbrev pub chooseCan : Exchange
 chooseCan = record { command = 0x00 ∷ 0x22 ∷ 0xC1 ∷ 0xA4 ∷ 0x24 ∷ 0x80 ∷ 0x0A ∷ 0x04 ∷ 0x00 ∷ 0x7F ∷ 0x00 ∷ 0x07 ∷ 0x02 ∷ 0x02 ∷ 0x04 ∷ 0x02 ∷ 0x02 ∷ 0x83 ∷ 0x01 ∷ 0x02 ∷ 0x7F ∷ 0x4C ∷ 0x12 ∷ 0x06 ∷ 0x09 ∷ 0x04 ∷ 0x00 ∷ 0x7F ∷ 0x00 ∷ 0x07 ∷ 0x03 ∷ 0x01 ∷ 0x02 ∷ 0x02 ∷ 0x53 ∷ 0x05 ∷ 0x00 ∷ 0x00 ∷ 0x00 ∷ 0x03 ∷ 0x10 ∷ []; note = Plain; result = none; first = []; second = []; size = room }
 
--- rights 0000000300 lack bit 4
+-- choose it for rights 0000000300, which lack bit 4
 abbrev pub chooseCanWithout : Exchange
 chooseCanWithout = record { command = 0x00 ∷ 0x22 ∷ 0xC1 ∷ 0xA4 ∷ 0x24 ∷ 0x80 ∷ 0x0A ∷ 0x04 ∷ 0x00 ∷ 0x7F ∷ 0x00 ∷ 0x07 ∷ 0x02 ∷ 0x02 ∷ 0x04 ∷ 0x02 ∷ 0x02 ∷ 0x83 ∷ 0x01 ∷ 0x02 ∷ 0x7F ∷ 0x4C ∷ 0x12 ∷ 0x06 ∷ 0x09 ∷ 0x04 ∷ 0x00 ∷ 0x7F ∷ 0x00 ∷ 0x07 ∷ 0x03 ∷ 0x01 ∷ 0x02 ∷ 0x02 ∷ 0x53 ∷ 0x05 ∷ 0x00 ∷ 0x00 ∷ 0x00 ∷ 0x03 ∷ 0x00 ∷ []; note = Plain; result = none; first = []; second = []; size = room }
 
@@ -91,7 +91,7 @@ announce = record { command = 0x00 ∷ 0x22 ∷ 0x81 ∷ 0xA4 ∷ 0x1D ∷ 0x80 
 abbrev pub challenge : Exchange
 challenge = record { command = 0x00 ∷ 0x84 ∷ 0x00 ∷ 0x00 ∷ 0x08 ∷ []; note = Protected; result = (passed Challenge); first = 0x00 ∷ 0x00 ∷ 0x00 ∷ 0x00 ∷ 0x00 ∷ 0x00 ∷ 0x00 ∷ 0x00 ∷ []; second = []; size = room }
 
--- prove the terminal: passed, and failed
+-- prove the terminal, passed
 abbrev pub prove : Exchange
 prove = record { command = 0x00 ∷ 0x82 ∷ 0x00 ∷ 0x00 ∷ 0x01 ∷ 0x01 ∷ []; note = Protected; result = (passed Proof); first = []; second = []; size = room }
 
@@ -103,11 +103,11 @@ proveBadly = record { command = 0x00 ∷ 0x82 ∷ 0x00 ∷ 0x00 ∷ 0x01 ∷ 0x0
 abbrev pub chooseChip : Exchange
 chooseChip = record { command = 0x00 ∷ 0x22 ∷ 0x41 ∷ 0xA4 ∷ 0x0C ∷ 0x80 ∷ 0x0A ∷ 0x04 ∷ 0x00 ∷ 0x7F ∷ 0x00 ∷ 0x07 ∷ 0x02 ∷ 0x02 ∷ 0x03 ∷ 0x02 ∷ 0x02 ∷ []; note = Protected; result = none; first = []; second = []; size = room }
 
--- the chip key: the announced one, and one that only begins like it
+-- the chip key, the announced one
 abbrev pub chipKey : Exchange
 chipKey = record { command = 0x00 ∷ 0x86 ∷ 0x00 ∷ 0x00 ∷ 0x05 ∷ 0x7C ∷ 0x03 ∷ 0x80 ∷ 0x01 ∷ 0x01 ∷ 0x00 ∷ []; note = Protected; result = (passed ChipKey); first = 0x00 ∷ 0x00 ∷ 0x00 ∷ 0x00 ∷ 0x00 ∷ 0x00 ∷ 0x00 ∷ 0x00 ∷ 0x00 ∷ 0x00 ∷ 0x00 ∷ 0x00 ∷ 0x00 ∷ 0x00 ∷ 0x00 ∷ 0x00 ∷ []; second = 0x02 ∷ 0x03 ∷ []; size = room }
 
--- a longer key
+-- a chip key that only begins like it
 abbrev pub chipKeyLonger : Exchange
 chipKeyLonger = record { command = 0x00 ∷ 0x86 ∷ 0x00 ∷ 0x00 ∷ 0x05 ∷ 0x7C ∷ 0x03 ∷ 0x80 ∷ 0x01 ∷ 0x01 ∷ 0x00 ∷ []; note = Protected; result = (passed ChipKey); first = 0x00 ∷ 0x00 ∷ 0x00 ∷ 0x00 ∷ 0x00 ∷ 0x00 ∷ 0x00 ∷ 0x00 ∷ 0x00 ∷ 0x00 ∷ 0x00 ∷ 0x00 ∷ 0x00 ∷ 0x00 ∷ 0x00 ∷ 0x00 ∷ []; second = 0x02 ∷ 0x03 ∷ 0x04 ∷ []; size = room }
 
@@ -128,33 +128,46 @@ today = record { 0 = 20260115 }
 abbrev pub Worked : List Entry → Word → Bool → Type 0
 Worked entries word says = (prescribed (reached (begun (onePoint root) today) entries) readOne ≡ word) × (recordSays (onePoint root) today entries 1 ≡ says)
 
+-- a choice and its four steps; a DV and a terminal; announcement, challenge and proof; a chip key
+abbrev pub session : Exchange → List Entry
+session choice = Sent choice ∷ Sent step1 ∷ Sent step2 ∷ Sent step3 ∷ Sent step4 ∷ []
+
+abbrev pub certificates : List Entry
+certificates = Sent selectRoot ∷ Sent verifyDv ∷ Sent selectDv ∷ Sent verifyTerminal ∷ []
+
+abbrev pub proof : List Entry
+proof = Sent announce ∷ Sent challenge ∷ Sent prove ∷ []
+
+abbrev pub chip : Exchange → List Entry
+chip key = Sent chooseChip ∷ Sent key ∷ []
+
 -- the whole way: allowed
 abbrev pub whole : List Entry
-whole = Sent choosePin ∷ Sent step1 ∷ Sent step2 ∷ Sent step3 ∷ Sent step4 ∷ Sent selectRoot ∷ Sent verifyDv ∷ Sent selectDv ∷ Sent verifyTerminal ∷ Sent announce ∷ Sent challenge ∷ Sent prove ∷ Sent chooseChip ∷ Sent chipKey ∷ []
+whole = session choosePin ++ certificates ++ proof ++ chip chipKey
 
 -- a choice taken after it: no rights are kept
 abbrev pub newChoice : List Entry
-newChoice = Sent choosePin ∷ Sent step1 ∷ Sent step2 ∷ Sent step3 ∷ Sent step4 ∷ Sent selectRoot ∷ Sent verifyDv ∷ Sent selectDv ∷ Sent verifyTerminal ∷ Sent announce ∷ Sent challenge ∷ Sent prove ∷ Sent chooseChip ∷ Sent chipKey ∷ Sent chooseAgain ∷ []
+newChoice = whole ++ (Sent chooseAgain ∷ [])
 
 -- a link taken after the terminal: the chain is gone
 abbrev pub linked : List Entry
-linked = Sent choosePin ∷ Sent step1 ∷ Sent step2 ∷ Sent step3 ∷ Sent step4 ∷ Sent selectRoot ∷ Sent verifyDv ∷ Sent selectDv ∷ Sent verifyTerminal ∷ Sent selectRoot ∷ Sent verifyLink ∷ Sent announce ∷ Sent challenge ∷ Sent prove ∷ Sent chooseChip ∷ Sent chipKey ∷ []
+linked = session choosePin ++ certificates ++ (Sent selectRoot ∷ Sent verifyLink ∷ []) ++ proof ++ chip chipKey
 
 -- a lost proof, and another with the same challenge: it does not serve again
 abbrev pub lostProof : List Entry
-lostProof = Sent choosePin ∷ Sent step1 ∷ Sent step2 ∷ Sent step3 ∷ Sent step4 ∷ Sent selectRoot ∷ Sent verifyDv ∷ Sent selectDv ∷ Sent verifyTerminal ∷ Sent announce ∷ Sent challenge ∷ Sent proveBadly ∷ Sent prove ∷ Sent chooseChip ∷ Sent chipKey ∷ []
+lostProof = session choosePin ++ certificates ++ (Sent announce ∷ Sent challenge ∷ Sent proveBadly ∷ Sent prove ∷ []) ++ chip chipKey
 
 -- a chip key that only begins like the announced one
 abbrev pub longerKey : List Entry
-longerKey = Sent choosePin ∷ Sent step1 ∷ Sent step2 ∷ Sent step3 ∷ Sent step4 ∷ Sent selectRoot ∷ Sent verifyDv ∷ Sent selectDv ∷ Sent verifyTerminal ∷ Sent announce ∷ Sent challenge ∷ Sent prove ∷ Sent chooseChip ∷ Sent chipKeyLonger ∷ []
+longerKey = session choosePin ++ certificates ++ proof ++ chip chipKeyLonger
 
 -- the CAN, with bit 4 in all four: allowed
 abbrev pub byCan : List Entry
-byCan = Sent chooseCan ∷ Sent step1 ∷ Sent step2 ∷ Sent step3 ∷ Sent step4 ∷ Sent selectRoot ∷ Sent verifyDv ∷ Sent selectDv ∷ Sent verifyTerminal ∷ Sent announce ∷ Sent challenge ∷ Sent prove ∷ Sent chooseChip ∷ Sent chipKey ∷ []
+byCan = session chooseCan ++ certificates ++ proof ++ chip chipKey
 
 -- the CAN, with bit 4 missing from the confirmed rights
 abbrev pub byCanWithout : List Entry
-byCanWithout = Sent chooseCanWithout ∷ Sent step1 ∷ Sent step2 ∷ Sent step3 ∷ Sent step4 ∷ Sent selectRoot ∷ Sent verifyDv ∷ Sent selectDv ∷ Sent verifyTerminal ∷ Sent announce ∷ Sent challenge ∷ Sent prove ∷ Sent chooseChip ∷ Sent chipKey ∷ []
+byCanWithout = session chooseCanWithout ++ certificates ++ proof ++ chip chipKey
 
 -- a reset after the whole way
 abbrev pub resetAfter : List Entry

@@ -11,14 +11,14 @@ use Rattle.standing.specs.declared.Stage.{Stage}
 use Rattle.standing.specs.declared.Stage.the-variants.{Idle}
 use Rattle.session.specs.declared.Session.{Session}
 use Rattle.standing.specs.Standing.{noChain}
-use Rattle.session.specs.Session.{bareSession, chainedTo}
+use Rattle.session.specs.Session.{bareSession, renewed, chainedTo}
 
 pub bare-is : (o : Opened) (g : Granted) (s : Stage) (c : Chain) (k : Key) → c ≡ noChain → k ≡ noKey
     → _≡_ {A = Session} (record { context = record { opened = o; confirmed = g; chain = c; stage = s; key = k }; selected = NoIssuer }) (bareSession o g s)
 bare-is o g s c k e f = rw (e, f)
 
 pub chained-is : (z : Session) (c : Chain) (k : Key) → k ≡ noKey
-    → _≡_ {A = Session} (record { context = record { opened = z .context .opened; confirmed = z .context .confirmed; chain = c; stage = Idle; key = k }; selected = NoIssuer }) (chainedTo z c)
+    → renewed z c Idle k NoIssuer ≡ chainedTo z c
 chained-is z c k e = rw e
 
 pub unchained-is : (z r : Session) (c : Chain) → c ≡ noChain → r ≡ chainedTo z c → r ≡ chainedTo z noChain

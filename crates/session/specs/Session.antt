@@ -1,5 +1,5 @@
 -- "The session holds which password opened it, the confirmed rights, the chain so far, the selected issuer and one stage."
--- Record literals of a session stand here alone. Assumes nothing: these are definitions.
+-- Among the definitions, record literals of a session stand here alone. Assumes nothing: these are definitions.
 use Rattle.keys.specs.Keys.{noKey}
 use Rattle.keys.specs.declared.Key.{Key}
 use Rattle.rights.specs.declared.Granted.{Granted}
@@ -10,6 +10,7 @@ use Rattle.run.specs.declared.Step.the-variants.{Nonce}
 use Rattle.standing.specs.declared.Opened.{Opened}
 use Rattle.standing.specs.declared.Opened.the-variants.{Nobody}
 use Rattle.standing.specs.declared.Chain.{Chain}
+use Rattle.standing.specs.declared.Selected.{Selected}
 use Rattle.standing.specs.declared.Selected.the-variants.{NoIssuer, Of}
 use Rattle.standing.specs.declared.Stage.{Stage}
 use Rattle.standing.specs.declared.Stage.the-variants.{Idle, Run, Announced}
@@ -27,24 +28,22 @@ noSession = bareSession Nobody NoRights Idle
 abbrev pub rechosen : Session → Choice → Session
 rechosen z c = bareSession (z .context .opened) NoRights (Run c Nonce)
 
+-- the same opener and rights, with this chain, stage, announced key and selection
+abbrev pub renewed : Session → Chain → Stage → Key → Selected → Session
+renewed z c s k i = record { context = record { opened = z .context .opened; confirmed = z .context .confirmed; chain = c; stage = s; key = k }; selected = i }
+
+-- nothing but the stage changes
 abbrev pub atStage : Session → Stage → Session
-atStage z s =
-    record {
-      context = record { opened = z .context .opened; confirmed = z .context .confirmed; chain = z .context .chain; stage = s; key = z .context .key };
-      selected = z .selected;
-    }
+atStage z s = renewed z (z .context .chain) s (z .context .key) (z .selected)
 
 -- "Any challenge falls"
 abbrev pub announcedWith : Session → Key → Session
-announcedWith z k =
-    record {
-      context = record { opened = z .context .opened; confirmed = z .context .confirmed; chain = z .context .chain; stage = Announced; key = k };
-      selected = z .selected;
-    }
+announcedWith z k = renewed z (z .context .chain) Announced k (z .selected)
 
 -- "Accepted: selection and announcement fall"
 abbrev pub chainedTo : Session → Chain → Session
-chainedTo z c = record { context = record { opened = z .context .opened; confirmed = z .context .confirmed; chain = c; stage = Idle; key = noKey }; selected = NoIssuer }
+chainedTo z c = renewed z c Idle noKey NoIssuer
 
+-- an issuer is selected; "a selection keeps a challenge"
 abbrev pub selecting : Session → Issuer → Session
 selecting z i = record { context = z .context; selected = Of i }

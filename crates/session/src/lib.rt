@@ -28,7 +28,7 @@ pub struct Session {
 }
 
 impl Session {
-    // A session at some stage, with nothing but who opened it.
+    // Nothing but who opened it, its rights and its stage.
     pub fn bare(opened: Opened, confirmed: Granted, stage: Stage) -> Self
         ensures { λ r. ⌜ r ≡ bareSession opened confirmed stage ⌝ }
     {

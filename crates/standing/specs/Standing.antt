@@ -78,27 +78,34 @@ rank AtAuthenticated = 6
 
 -- no run is open
 abbrev pub noRun : Stage → Bool
-noRun s = leb 1 (rank s)
+noRun s = leb (rank Idle) (rank s)
 
 -- no run is open, and the terminal is not yet proven
 abbrev pub unproven : Stage → Bool
-unproven s = noRun s && leb (rank s) 3
+unproven s = noRun s && leb (rank s) (rank AtChallenged)
 
--- the stages from announced on, one by one, and all of them
+-- the stages from announced on, one by one
 abbrev pub isAnnounced : Stage → Bool
-isAnnounced s = eqb (rank s) 2
+isAnnounced s = eqb (rank s) (rank AtAnnounced)
 
 abbrev pub isChallenged : Stage → Bool
-isChallenged s = eqb (rank s) 3
+isChallenged s = eqb (rank s) (rank AtChallenged)
 
 abbrev pub isProven : Stage → Bool
-isProven s = eqb (rank s) 4
+isProven s = eqb (rank s) (rank AtProven)
 
 abbrev pub isChosen : Stage → Bool
-isChosen s = eqb (rank s) 5
+isChosen s = eqb (rank s) (rank AtChosen)
 
 abbrev pub isAuthenticated : Stage → Bool
-isAuthenticated s = eqb (rank s) 6
+isAuthenticated s = eqb (rank s) (rank AtAuthenticated)
 
-abbrev pub told : Stage → Bool
-told s = leb 2 (rank s)
+-- "a stage from announced on", and from challenged and from proven on
+abbrev pub fromAnnounced : Stage → Bool
+fromAnnounced s = leb (rank AtAnnounced) (rank s)
+
+abbrev pub fromChallenged : Stage → Bool
+fromChallenged s = leb (rank AtChallenged) (rank s)
+
+abbrev pub fromProven : Stage → Bool
+fromProven s = leb (rank AtProven) (rank s)

@@ -140,18 +140,31 @@ impl Selected {
 }
 
 impl Stage {
-    // How far a session has come; a run stands apart.
+    // The ranks of the stages; a run has 0, apart from them.
+    pub const IDLE: u8 = 1;
+
+    pub const ANNOUNCED: u8 = 2;
+
+    pub const CHALLENGED: u8 = 3;
+
+    pub const PROVEN: u8 = 4;
+
+    pub const CHOSEN: u8 = 5;
+
+    pub const AUTHENTICATED: u8 = 6;
+
+    // How far a session has come.
     pub fn rank(self) -> u8
         ensures { λ r. ⌜ r ≡ rank self ⌝ }
     {
         match self {
             Stage::Run(_, _) => 0,
-            Stage::Idle => 1,
-            Stage::Announced => 2,
-            Stage::Challenged => 3,
-            Stage::Proven => 4,
-            Stage::ChipKeyChosen => 5,
-            Stage::Authenticated => 6,
+            Stage::Idle => Stage::IDLE,
+            Stage::Announced => Stage::ANNOUNCED,
+            Stage::Challenged => Stage::CHALLENGED,
+            Stage::Proven => Stage::PROVEN,
+            Stage::ChipKeyChosen => Stage::CHOSEN,
+            Stage::Authenticated => Stage::AUTHENTICATED,
         }
     }
 }

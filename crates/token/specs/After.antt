@@ -1,6 +1,6 @@
--- The token after each event: every state change of the product. Assumes nothing: these are definitions.
+-- The token after each event: every state change of a step. Assumes nothing: these are definitions.
 use Prim.Native.Nat.{ℕ, _-_}
-use mathlib.Core.Bool.{Bool, true, false, cond}
+use mathlib.Core.Bool.{true, false, cond}
 use Rattle.days.specs.Days.{later}
 use Rattle.points.specs.Points.{noPoint, todayAfter}
 use Rattle.keys.specs.declared.Key.{Key}
@@ -22,15 +22,17 @@ use Rattle.standing.specs.declared.Stage.the-variants.{Idle, Run, Announced, Ch
 use Rattle.standing.specs.Standing.{noChain}
 use Rattle.session.specs.Session.{bareSession, rechosen, atStage, announcedWith, chainedTo, selecting}
 use Rattle.token.specs.declared.state.Token.{Token}
-use Rattle.token.specs.State.{withSession, withPin, withPuk, withActive, withToday, withPoints, resetOf}
+use Rattle.token.specs.State.{withSession, withPin, withPuk, withActive, withToday, withPoints, resetOf, contextOf, chainOf}
 
 -- "opens a run and drops confirmed rights, chain, selection and stage, but not which password opened the session"
 unfoldable pub choiceTaken : Token → Choice → Token
 choiceTaken t c = withSession t (rechosen (t .session) c)
 
+-- the same session at another stage
 unfoldable pub staged : Token → Stage → Token
 staged t s = withSession t (atStage (t .session) s)
 
+-- the next step of the run
 unfoldable pub stepPassed : Token → Choice → Step → Token
 stepPassed t c p = staged t (Run c (nextStep p))
 
@@ -44,12 +46,13 @@ opened t c = withPin (withSession t (bareSession (By (passwordOf c)) (rightsName
 
 -- "An old session stays open without rights"
 unfoldable pub runClosed : Token → Token
-runClosed t = withSession t (bareSession (t .session .context .opened) NoRights Idle)
+runClosed t = withSession t (bareSession (contextOf t .opened) NoRights Idle)
 
 -- "otherwise PIN counter down one .., run closed"
 unfoldable pub trialLost : Token → ℕ → Token
 trialLost t left = withPin (runClosed t) left
 
+-- "Select issuer"
 unfoldable pub issuerSelected : Token → Issuer → Token
 issuerSelected t i = withSession t (selecting (t .session) i)
 
@@ -61,6 +64,7 @@ linkTaken t p = withToday (withSession (withPoints t (linked (t .points) p)) (ch
 unfoldable pub dvTaken : Token → Point → Rights → Token
 dvTaken t p root = withToday (withSession t (chainedTo (t .session) (record { reach = ToDv root; dv = p; terminal = noPoint }))) (later (t .today) (p .first))
 
+-- a chain's reach with a terminal under its DV; no plan comes here without a DV
 abbrev pub extended : Reach → Reach
 extended Empty = Empty
 extended (ToDv root) = ToTerminal root
@@ -70,9 +74,10 @@ extended (ToTerminal root) = ToTerminal root
 unfoldable pub terminalTaken : Token → Point → Token
 terminalTaken t p =
     withToday
-    (withSession t (chainedTo (t .session) (record { reach = extended (t .session .context .chain .reach); dv = t .session .context .chain .dv; terminal = p })))
-    (todayAfter (t .session .context .chain .dv) p (t .today))
+    (withSession t (chainedTo (t .session) (record { reach = extended (chainOf t .reach); dv = chainOf t .dv; terminal = p })))
+    (todayAfter (chainOf t .dv) p (t .today))
 
+-- "Any challenge falls"
 unfoldable pub announced : Token → Key → Token
 announced t k = withSession t (announcedWith (t .session) k)
 
@@ -82,9 +87,6 @@ unblocked t = withPin t tries
 
 unfoldable pub unblockedByPuk : Token → Token
 unblockedByPuk t = withPuk (withPin t tries) (t .puk - 1)
-
-unfoldable pub activated : Token → Bool → Token
-activated t b = withActive t b
 
 unfoldable pub afterOf : Token → Event → Point → Key → Token
 afterOf t (Refused w) p k = t
@@ -111,7 +113,7 @@ afterOf t ReadAllowed p k = t
 afterOf t PinChanged p k = t
 afterOf t UnblockedByPuk p k = unblockedByPuk t
 afterOf t UnblockedByRight p k = unblocked t
-afterOf t Activated p k = activated t true
-afterOf t Deactivated p k = activated t false
+afterOf t Activated p k = withActive t true
+afterOf t Deactivated p k = withActive t false
 -- "Not passed: 6300, nothing changes", "same state"
 afterOf t NotPassed p k = t

@@ -9,7 +9,7 @@ use Rattle.standing.specs.declared.Selected.the-variants.{NoIssuer, Of}
 use Rattle.standing.specs.Standing.{hasDv}
 use Rattle.bounds.specs.Bounds.{contextFits}
 use Rattle.token.specs.declared.state.Token.{Token}
-use Rattle.token.specs.State.{uses}
+use Rattle.token.specs.State.{uses, contextOf, chainOf}
 use Rattle.run.specs.Run.{tries}
 
 -- "Selectable: trust points and the chain's DV"
@@ -24,10 +24,16 @@ selectable (Of Dv) two dv = dv
 -- a chain or a stage from announced on lacks them, or such a stage lacks its terminal or announced key"
 unfoldable pub inLimits : Token → Bool
 inLimits t =
+    -- "a counter"
     leb (t .pin) tries
     && leb (t .puk) uses
+    -- "date"
     && dayFits (t .today)
+    -- the trust points' names, dates, rights, and "two names .. are equal"
     && pointsFit (t .points)
-    && contextFits (t .session .context) (t .pin)
-    && not (hasDv (t .session .context .chain) && knows (t .points) (t .session .context .chain .dv .name))
-    && selectable (t .session .selected) (t .points .two) (hasDv (t .session .context .chain))
+    -- what a session has of these: bounds
+    && contextFits (contextOf t) (t .pin)
+    -- "two names among trust points and chain DV are equal"
+    && not (hasDv (chainOf t) && knows (t .points) (chainOf t .dv .name))
+    -- "the selection is not selectable"
+    && selectable (t .session .selected) (t .points .two) (hasDv (chainOf t))

@@ -1,9 +1,9 @@
 -- "Order: 6F00; protection; command form; CLA; INS; P1-P2; presence of data and Le (6700); moment; data (6A80, wrong length too);
--- 6982; 6A88; 6983; 6984; verdict." Assumes nothing: these are definitions.
+-- 6982; 6A88; 6983; 6984; verdict." Read from the end upwards: planOf (6F00; protection), requestedOf (form to presence), timedOf
+-- (moment), commandOf (data, and the rest). Assumes nothing: these are definitions.
 use mathlib.Core.Bool.{Bool, cond, not}
 use mathlib.Core.List.{List}
 use Prim.Native.Nat.{ℕ}
-use lib.Dec.{eqb}
 use Rattle.command.specs.declared.kind.Kind.{Kind}
 use Rattle.event.specs.declared.Refusal.the-variants.{Moment, Data, Outside}
 use Rattle.event.specs.declared.Event.the-variants.{Refused, Lost, Challenged, Proven, ProofLost, ChipKeyChosen, Activated, Deactivated, NotPassed}
@@ -25,14 +25,13 @@ use Rattle.checks.specs.Checks.{choosePlan, generalPlan, announcePlan, readPlan
 use Rattle.certify.specs.Certify.{selectPlan, verifyPlan}
 use Rattle.token.specs.declared.state.Token.{Token}
 use Rattle.token.specs.State.{contextOf, chainOf}
-use Rattle.run.specs.Run.{tries}
 use Rattle.token.specs.Limits.{inLimits}
 
 -- data, then the command's own checks
 unfoldable pub commandOf : Token → Asked → Ask → Plan
 commandOf t a Bad = settledBy (Refused Data)
 commandOf t a (Choose c) = choosePlan (t .pin) (t .active) (t .puk) (contextOf t .opened) c
-commandOf t a (General x) = generalPlan (contextOf t) (t .pin) (contextOf t .stage) x
+commandOf t a (General x) = generalPlan (contextOf t .key) (t .pin) (contextOf t .stage) x
 commandOf t a Select = selectPlan (t .points) (chainOf t) (a .name)
 commandOf t a Verify = verifyPlan (t .points) (chainOf t .dv) (t .today) (t .session .selected) (a .name) (a .point)
 commandOf t a Announce = announcePlan (chainOf t .terminal .name) (a .name) (a .key)
@@ -43,7 +42,7 @@ commandOf t a Prove = awaitsBy Proof Proven ProofLost
 commandOf t a ChooseChipKey = settledBy ChipKeyChosen
 commandOf t a (Read n) = readPlan (contextOf t) n
 commandOf t a ChangePin = changePlan (contextOf t) (t .active)
-commandOf t a Unblock = unblockPlan (contextOf t) (eqb (t .puk) 0) (eqb (t .pin) tries)
+commandOf t a Unblock = unblockPlan (contextOf t) (t .pin) (t .puk)
 commandOf t a Activate = activePlan (contextOf t) Activated
 commandOf t a Deactivate = activePlan (contextOf t) Deactivated
 

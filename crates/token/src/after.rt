@@ -1,6 +1,7 @@
-// The only place where the token changes: one arm an event.
+// Where a step changes the token: one arm an event.
 ghost use mathlib.Core.Path.{_≡_};
-ghost use Rattle.token.specs.After.{choiceTaken, stepPassed, opened, runClosed, trialLost, issuerSelected, linkTaken, dvTaken, extended, terminalTaken, announced, staged, unblockedByPuk, unblocked, activated, triesAfter, afterOf};
+ghost use Rattle.token.specs.After.{choiceTaken, stepPassed, opened, runClosed, trialLost, issuerSelected, linkTaken, dvTaken, extended, terminalTaken, announced, staged, unblockedByPuk, unblocked, triesAfter, afterOf};
+ghost use Rattle.token.specs.State.{withActive};
 ghost use Rattle.standing.specs.declared.Stage.the-variants.{Announced};
 use super::state::Token;
 use event::Event;
@@ -205,8 +206,9 @@ impl Token {
         self
     }
 
-    fn activated(mut self, active: bool) -> Self
-        ensures { λ r. ⌜ r ≡ activated self active ⌝ }
+    // Activated or deactivated.
+    fn with_active(mut self, active: bool) -> Self
+        ensures { λ r. ⌜ r ≡ withActive self active ⌝ }
     {
         self.active = active;
         self
@@ -241,8 +243,8 @@ impl Token {
             Event::PinChanged => self,
             Event::UnblockedByPuk => self.unblocked_by_puk(),
             Event::UnblockedByRight => self.unblocked(),
-            Event::Activated => self.activated(true),
-            Event::Deactivated => self.activated(false),
+            Event::Activated => self.with_active(true),
+            Event::Deactivated => self.with_active(false),
             Event::NotPassed => self,
         }
     }

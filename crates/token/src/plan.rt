@@ -46,7 +46,7 @@ impl Token {
             Ask::ChooseChipKey => Plan::settled(Event::ChipKeyChosen),
             Ask::Read(group) => checks::read(context, group),
             Ask::ChangePin => checks::change_pin(context, self.active),
-            Ask::Unblock => checks::unblock(context, self.puk == 0, self.pin == Token::TRIES),
+            Ask::Unblock => checks::unblock(context, self.pin, self.puk),
             Ask::Activate => checks::set_active(context, Event::Activated),
             Ask::Deactivate => checks::set_active(context, Event::Deactivated),
         }
