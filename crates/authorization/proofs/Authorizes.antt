@@ -13,15 +13,15 @@ use Rattle.standing.specs.declared.Reach.{Reach}
 use Rattle.standing.specs.declared.Chain.{Chain}
 use Rattle.session.specs.declared.Context.{Context}
 use Rattle.standing.specs.Standing.{openedByCan, rank, isAuthenticated}
-use Rattle.authorization.specs.Authorization.{nothing, rootOf, confirmedOf, sharedBy, authorization}
+use Rattle.authorization.specs.Authorization.{nothing, trustedOf, confirmedOf, sharedBy, authorization}
 
-pub root-arm : (x d : Reach) (r : Rights) → x ≡ d → r ≡ rootOf d → r ≡ rootOf x
-root-arm x d r e z = z ∙ ap rootOf (sym e)
+pub trusted-arm : (x d : Reach) (r : Rights) → x ≡ d → r ≡ trustedOf d → r ≡ trustedOf x
+trusted-arm x d r e z = z ∙ ap trustedOf (sym e)
 
 pub confirmed-arm : (x d : Granted) (r : Rights) → x ≡ d → r ≡ confirmedOf d → r ≡ confirmedOf x
 confirmed-arm x d r e z = z ∙ ap confirmedOf (sym e)
 
-pub shared-is : (c : Chain) (g : Granted) (a d r : Rights) → a ≡ rootOf (c .reach) → d ≡ confirmedOf g → r ≡ common a (c .dv .rights) (c .terminal .rights) d → r ≡ sharedBy c g
+pub shared-is : (c : Chain) (g : Granted) (a d r : Rights) → a ≡ trustedOf (c .reach) → d ≡ confirmedOf g → r ≡ common a (c .dv .rights) (c .terminal .rights) d → r ≡ sharedBy c g
 unfolding sharedBy
 shared-is c g a d r e f h = h ∙ rw (e, f)
 
@@ -39,13 +39,13 @@ module _ (c : Context) (k : ℕ) (e : k ≡ rank (c .stage)) where
     unfolding authorization
     shared-all q = rw (← e, eq-eqb k 6 h, ← f, ← i, ← g, q)
 
-pub ruleset authorizes = (root-arm, confirmed-arm, shared-is, not-yet, not-by-can, shared-all, needs)
+pub ruleset authorizes = (trusted-arm, confirmed-arm, shared-is, not-yet, not-by-can, shared-all, needs)
 
 -- bit k of what is shared is the bit in all four
 pub shared-right : (k : ℕ) (c : Chain) (g : Granted) → k < low
-    → hasRight k (sharedBy c g) ≡ hasRight k (rootOf (c .reach)) && hasRight k (c .dv .rights) && hasRight k (c .terminal .rights) && hasRight k (confirmedOf g)
+    → hasRight k (sharedBy c g) ≡ hasRight k (trustedOf (c .reach)) && hasRight k (c .dv .rights) && hasRight k (c .terminal .rights) && hasRight k (confirmedOf g)
 unfolding sharedBy
-shared-right k c g h = common-right k (rootOf (c .reach)) (c .dv .rights) (c .terminal .rights) (confirmedOf g) h
+shared-right k c g h = common-right k (trustedOf (c .reach)) (c .dv .rights) (c .terminal .rights) (confirmedOf g) h
 
 -- no right is effective but in an authenticated session, by the CAN only with bit 4
 pub effective-right : (k : ℕ) (c : Context) → k < low

@@ -14,17 +14,17 @@ use Rattle.standing.specs.Standing.{openedByCan, isAuthenticated}
 abbrev pub nothing : Rights
 nothing = record { 0 = 0 }
 
-abbrev pub rootOf : Reach → Rights
-rootOf Empty = nothing
-rootOf (ToDv r) = r
-rootOf (ToTerminal r) = r
+abbrev pub trustedOf : Reach → Rights
+trustedOf Empty = nothing
+trustedOf (ToDv r) = r
+trustedOf (ToTerminal r) = r
 
 abbrev pub confirmedOf : Granted → Rights
 confirmedOf (These r) = r
 confirmedOf NoRights = nothing
 
 unfoldable pub sharedBy : Chain → Granted → Rights
-sharedBy c g = common (rootOf (c .reach)) (c .dv .rights) (c .terminal .rights) (confirmedOf g)
+sharedBy c g = common (trustedOf (c .reach)) (c .dv .rights) (c .terminal .rights) (confirmedOf g)
 
 unfoldable pub authorization : Context → Rights
 authorization c =

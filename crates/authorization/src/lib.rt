@@ -1,6 +1,6 @@
 // The effective authorization of a session.
 ghost use mathlib.Core.Path.{_≡_};
-ghost use Rattle.authorization.specs.Authorization.{rootOf, confirmedOf, sharedBy, authorization};
+ghost use Rattle.authorization.specs.Authorization.{trustedOf, confirmedOf, sharedBy, authorization};
 use rights::Granted;
 use rights::Rights;
 use session::Context;
@@ -9,8 +9,8 @@ use standing::Reach;
 use standing::Stage;
 
 // The rights of the trust point that the chain stands under.
-fn root(reach: Reach) -> Rights
-    ensures { λ r. ⌜ r ≡ rootOf reach ⌝ }
+fn trusted(reach: Reach) -> Rights
+    ensures { λ r. ⌜ r ≡ trustedOf reach ⌝ }
 {
     match reach {
         Reach::Empty => Rights(0),
@@ -37,7 +37,7 @@ fn shared(chain: Chain, granted: Granted) -> Rights
     let terminal = chain.terminal;
     let b = dv.rights;
     let c = terminal.rights;
-    let a = root(reach);
+    let a = trusted(reach);
     let d = confirmed(granted);
     Rights::common(a, b, c, d)
 }

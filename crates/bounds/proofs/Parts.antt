@@ -24,14 +24,14 @@ use Rattle.standing.specs.declared.Stage.{Stage}
 use Rattle.standing.specs.declared.Stage.the-variants.{Run}
 use Rattle.session.specs.declared.Context.{Context}
 use Rattle.standing.specs.Standing.{openedByPin, openedByCan, hasRights, hasDv, hasTerminal, rank}
-use Rattle.bounds.specs.Bounds.{grantedFits, rootFits, dvFits, terminalFits, reachFits, chainFits, runFits, stageFits, groundFits, contextFits}
+use Rattle.bounds.specs.Bounds.{grantedFits, trustedFits, dvFits, terminalFits, reachFits, chainFits, runFits, stageFits, groundFits, contextFits}
 
 pub granted-these : (g : Granted) (r : Rights) (b : Bool) → g ≡ These r → b ≡ rightsFit r → b ≡ grantedFits g
 granted-these g r b e f = rw e f
 
-pub root-is : (r : Rights) (a b : Bool) (o : Role) → a ≡ rightsFit r → o ≡ roleOf r → b ≡ isCvca o → a && b ≡ rootFits r
-unfolding rootFits
-root-is r a b o e f g = rw (e, g, f)
+pub trusted-is : (r : Rights) (a b : Bool) (o : Role) → a ≡ rightsFit r → o ≡ roleOf r → b ≡ isCvca o → a && b ≡ trustedFits r
+unfolding trustedFits
+trusted-is r a b o e f g = rw (e, g, f)
 
 pub dv-is : (p : Point) (a b : Bool) (o : Role) → a ≡ pointFits p → o ≡ roleOf (p .rights) → b ≡ isDv o → a && b ≡ dvFits p
 unfolding dvFits
@@ -46,7 +46,7 @@ module _ (c : Chain) where
   unfolding chainFits
   chain-empty e = ap (λ (r : Reach). reachFits r (c .dv) (c .terminal)) (sym e)
 
-  module _ (r : Rights) (a b : Bool) (f : a ≡ rootFits r) (g : b ≡ dvFits (c .dv)) where
+  module _ (r : Rights) (a b : Bool) (f : a ≡ trustedFits r) (g : b ≡ dvFits (c .dv)) where
     pub chain-dv : c .reach ≡ ToDv r → a && b ≡ chainFits c
     unfolding chainFits
     chain-dv e = rw (f, g) (ap (λ (x : Reach). reachFits x (c .dv) (c .terminal)) (sym e))
@@ -73,4 +73,4 @@ pub context-is : (x : Context) (pin : ℕ) (a b c d e : Bool) → a ≡ grantedF
 unfolding contextFits
 context-is x pin a b c d e f g h i j = rw (f, g, h, i, j)
 
-pub ruleset parts = (granted-these, root-is, dv-is, terminal-is, chain-empty, chain-dv, chain-terminal, run-fits, stage-run, ground-is, context-is, needs)
+pub ruleset parts = (granted-these, trusted-is, dv-is, terminal-is, chain-empty, chain-dv, chain-terminal, run-fits, stage-run, ground-is, context-is, needs)

@@ -27,8 +27,8 @@ grantedFits (These r) = rightsFit r
 grantedFits NoRights = true
 
 -- each certificate that stands has its role
-unfoldable pub rootFits : Rights → Bool
-rootFits r = rightsFit r && isCvca (roleOf r)
+unfoldable pub trustedFits : Rights → Bool
+trustedFits r = rightsFit r && isCvca (roleOf r)
 
 unfoldable pub dvFits : Point → Bool
 dvFits p = pointFits p && isDv (roleOf (p .rights))
@@ -38,8 +38,8 @@ terminalFits p = pointFits p && isTerminal (roleOf (p .rights))
 
 abbrev pub reachFits : Reach → Point → Point → Bool
 reachFits Empty dv terminal = true
-reachFits (ToDv root) dv terminal = rootFits root && dvFits dv
-reachFits (ToTerminal root) dv terminal = rootFits root && dvFits dv && terminalFits terminal
+reachFits (ToDv trusted) dv terminal = trustedFits trusted && dvFits dv
+reachFits (ToTerminal trusted) dv terminal = trustedFits trusted && dvFits dv && terminalFits terminal
 
 unfoldable pub chainFits : Chain → Bool
 chainFits c = reachFits (c .reach) (c .dv) (c .terminal)

@@ -1,6 +1,6 @@
 // The limits of a session's parts.
 ghost use mathlib.Core.Path.{_≡_};
-ghost use Rattle.bounds.specs.Bounds.{grantedFits, rootFits, dvFits, terminalFits, chainFits, runFits, stageFits, groundFits, contextFits};
+ghost use Rattle.bounds.specs.Bounds.{grantedFits, trustedFits, dvFits, terminalFits, chainFits, runFits, stageFits, groundFits, contextFits};
 use points::Point;
 use rights::Granted;
 use rights::Rights;
@@ -22,12 +22,12 @@ fn granted_fits(granted: Granted) -> bool
 }
 
 // The rights of the trust point that a DV was accepted under.
-fn root_fits(root: Rights) -> bool
-    ensures { λ r. ⌜ r ≡ rootFits root ⌝ }
+fn trusted_fits(trusted: Rights) -> bool
+    ensures { λ r. ⌜ r ≡ trustedFits trusted ⌝ }
 {
-    let fits = root.fits();
-    let anchor = root.role().is_cvca();
-    fits & anchor
+    let fits = trusted.fits();
+    let is_cvca = trusted.role().is_cvca();
+    fits & is_cvca
 }
 
 fn dv_fits(dv: Point) -> bool
@@ -57,8 +57,8 @@ fn chain_fits(chain: Chain) -> bool
     let reach = chain.reach;
     match reach {
         Reach::Empty => true,
-        Reach::ToDv(root) => root_fits(root) & dv_fits(dv),
-        Reach::ToTerminal(root) => root_fits(root) & dv_fits(dv) & terminal_fits(terminal),
+        Reach::ToDv(trusted) => trusted_fits(trusted) & dv_fits(dv),
+        Reach::ToTerminal(trusted) => trusted_fits(trusted) & dv_fits(dv) & terminal_fits(terminal),
     }
 }
 

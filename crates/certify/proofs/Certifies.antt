@@ -22,16 +22,16 @@ use Rattle.course.specs.declared.Plan.{Plan}
 use Rattle.course.specs.Course.{settledBy}
 use Rattle.order.specs.Order.{verifyLadder}
 use Rattle.outcome.specs.Outcome.{issues, takenEvent}
-use Rattle.trust.specs.Trust.{found, knows, holderOf}
+use Rattle.trust.specs.Trust.{found, knows, issuerOf}
 use Rattle.trust.specs.declared.Points.{Points}
-use Rattle.trust.specs.declared.Anchor.{Anchor}
-use Rattle.trust.specs.declared.Anchor.the-variants.{Is, Unknown}
+use Rattle.trust.specs.declared.Trusted.{Trusted}
+use Rattle.trust.specs.declared.Trusted.the-variants.{Is, Unknown}
 use Rattle.standing.specs.declared.Chain.{Chain}
 use Rattle.standing.specs.declared.Selected.{Selected}
 use Rattle.standing.specs.Standing.{hasDv}
-use Rattle.certify.specs.Certify.{selectPlan, repeats, late, heldCourse, underCourse, underPlan, verifyPlan}
+use Rattle.certify.specs.Certify.{selectPlan, repeats, late, issuedCourse, underCourse, underPlan, verifyPlan}
 
-module _ (h : Points) (n : Name) (x : Anchor) (e : x ≡ found h n) (c : Chain) (r : Plan) where
+module _ (h : Points) (n : Name) (x : Trusted) (e : x ≡ found h n) (c : Chain) (r : Plan) where
   pub select-point : (i : Issuer) → x ≡ Is i → r ≡ settledBy (IsSelected i) → r ≡ selectPlan h c n
   unfolding selectPlan
   select-point i q z = rw (sym e ∙ q) z
@@ -56,12 +56,12 @@ unfolding late
 late-is today p h o l a b e f g = rw (e, f, g)
 
 module _ (points : Points) (dv : Point) (today : Day) where
-  pub course-is : (i : Issuer) (n : Name) (p h : Point) (o : Role) (a b c l : Bool) (x : Event) (r : Course) → h ≡ holderOf points i dv → o ≡ roleOf (p .rights)
+  pub course-is : (i : Issuer) (n : Name) (p h : Point) (o : Role) (a b c l : Bool) (x : Event) (r : Course) → h ≡ issuerOf points i dv → o ≡ roleOf (p .rights)
       → a ≡ issues i o → b ≡ repeats points dv (p .name) o → c ≡ sameName n (h .name) → l ≡ late today p h o → x ≡ takenEvent o (h .rights)
       → r ≡ verifyLadder (not a) b (not c) l x → r ≡ underCourse points dv today i n p
   unfolding underCourse
   course-is i n p h o a b c l x r e f g q u v w z =
-      z ∙ rw (g, q, u, v, w) (ap (λ (y : Point). heldCourse points dv today i y n p o) e ∙ ap (λ (y : Role). heldCourse points dv today i (holderOf points i dv) n p y) f)
+      z ∙ rw (g, q, u, v, w) (ap (λ (y : Point). issuedCourse points dv today i y n p o) e ∙ ap (λ (y : Role). issuedCourse points dv today i (issuerOf points i dv) n p y) f)
 
   pub under-is : (i : Issuer) (n : Name) (p : Point) (c : Course) (k : Key) → c ≡ underCourse points dv today i n p → k ≡ noKey
       → _≡_ {A = Plan} (record { course = c; point = p; key = k }) (underPlan points dv today i n p)

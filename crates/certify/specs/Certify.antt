@@ -18,17 +18,17 @@ use Rattle.course.specs.declared.Plan.{Plan}
 use Rattle.course.specs.Course.{settledBy}
 use Rattle.order.specs.Order.{verifyLadder}
 use Rattle.outcome.specs.Outcome.{issues, takenEvent}
-use Rattle.trust.specs.Trust.{found, knows, holderOf}
+use Rattle.trust.specs.Trust.{found, knows, issuerOf}
 use Rattle.trust.specs.declared.Points.{Points}
-use Rattle.trust.specs.declared.Anchor.{Anchor}
-use Rattle.trust.specs.declared.Anchor.the-variants.{Is, Unknown}
+use Rattle.trust.specs.declared.Trusted.{Trusted}
+use Rattle.trust.specs.declared.Trusted.the-variants.{Is, Unknown}
 use Rattle.standing.specs.declared.Selected.{Selected}
 use Rattle.standing.specs.declared.Selected.the-variants.{NoIssuer, Of}
 use Rattle.standing.specs.declared.Chain.{Chain}
 use Rattle.standing.specs.Standing.{hasDv}
 
 -- "Selectable: trust points and the chain's DV"; a name that is neither's is 6A88
-abbrev pub selectBy : Chain → Name → Anchor → Plan
+abbrev pub selectBy : Chain → Name → Trusted → Plan
 selectBy chain n (Is i) = settledBy (IsSelected i)
 selectBy chain n Unknown = cond (hasDv chain && sameName n (chain .dv .name)) (settledBy (IsSelected Dv)) (settledBy (Refused NotFound))
 
@@ -41,25 +41,30 @@ repeats h dv n role = knows h n || (isTerminal role && sameName n (dv .name))
 
 -- "Unless it is a link, neither certificate nor issuer may have its last day before today"
 unfoldable pub late : Day → Point → Point → Role → Bool
-late today p holder role = not (isCvca role) && (expired p today || expired holder today)
+late today p issuer role = not (isCvca role) && (expired p today || expired issuer today)
 
--- a certificate under an issuer with this certificate of its own
-abbrev pub heldCourse : Points → Point → Day → Issuer → Point → Name → Point → Role → Course
-heldCourse h dv today i holder n p role =
+-- a certificate p of this role, with n in its 42, under an issuer that has this certificate of its own
+abbrev pub issuedCourse : Points → Point → Day → Issuer → Point → Name → Point → Role → Course
+issuedCourse h dv today which issuer n p role =
     verifyLadder
-    (not (issues i role))
+    -- "CVCA issues CVCA (link) or DV; DV issues terminal; else 6A80"
+    (not (issues which role))
+    -- "A new name differs from both trust points', a terminal's also from its DV's (6A80)"
     (repeats h dv (p .name) role)
-    (not (sameName n (holder .name)))
-    (late today p holder role)
-    (takenEvent role (holder .rights))
+    -- "whose name must equal 42 (6A88)"
+    (not (sameName n (issuer .name)))
+    -- "neither certificate nor issuer may have its last day before today (6984)"
+    (late today p issuer role)
+    (takenEvent role (issuer .rights))
 
 unfoldable pub underCourse : Points → Point → Day → Issuer → Name → Point → Course
-underCourse h dv today i n p = heldCourse h dv today i (holderOf h i dv) n p (roleOf (p .rights))
+underCourse h dv today i n p = issuedCourse h dv today i (issuerOf h i dv) n p (roleOf (p .rights))
 
 unfoldable pub underPlan : Points → Point → Day → Issuer → Name → Point → Plan
 underPlan h dv today i n p = record { course = underCourse h dv today i n p; point = p; key = noKey }
 
 -- under the selected issuer
 unfoldable pub verifyPlan : Points → Point → Day → Selected → Name → Point → Plan
+-- the moment has refused this before
 verifyPlan h dv today NoIssuer n p = settledBy (Refused Moment)
 verifyPlan h dv today (Of i) n p = underPlan h dv today i n p

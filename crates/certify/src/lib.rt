@@ -13,19 +13,19 @@ use points::Point;
 use roles::Role;
 use standing::Chain;
 use standing::Selected;
-use trust::Anchor;
 use trust::Points;
+use trust::Trusted;
 
 pub fn select(points: Points, chain: Chain, name: Name) -> Plan
     ensures { λ r. ⌜ r ≡ selectPlan points chain name ⌝ }
 {
     let dv = chain.dv;
-    let own = dv.name;
-    if let Anchor::Is(issuer) = points.find(name) {
+    let dv_name = dv.name;
+    if let Trusted::Is(issuer) = points.find(name) {
         return Plan::settled(Event::Selected(issuer));
     }
     let held = chain.has_dv();
-    let same = name.same(own);
+    let same = name.same(dv_name);
     if held & same {
         return Plan::settled(Event::Selected(Issuer::Dv));
     }
@@ -36,20 +36,20 @@ pub fn select(points: Points, chain: Chain, name: Name) -> Plan
 fn repeats(points: Points, dv: Point, name: Name, role: Role) -> bool
     ensures { λ r. ⌜ r ≡ repeats points dv name role ⌝ }
 {
-    let own = dv.name;
+    let dv_name = dv.name;
     let known = points.knows(name);
-    let same = name.same(own);
-    let last = role.is_terminal();
-    known | (last & same)
+    let same = name.same(dv_name);
+    let terminal = role.is_terminal();
+    known | (terminal & same)
 }
 
 // Whether certificate or issuer is past its last day; a link may be.
-fn late(today: Day, point: Point, holder: Point, role: Role) -> bool
-    ensures { λ r. ⌜ r ≡ late today point holder role ⌝ }
+fn late(today: Day, point: Point, issuer: Point, role: Role) -> bool
+    ensures { λ r. ⌜ r ≡ late today point issuer role ⌝ }
 {
     let link = role.is_cvca();
     let a = point.expired(today);
-    let b = holder.expired(today);
+    let b = issuer.expired(today);
     !link & (a | b)
 }
 
@@ -58,23 +58,23 @@ fn under_course(
     points: Points,
     dv: Point,
     today: Day,
-    issuer: Issuer,
+    which: Issuer,
     name: Name,
     point: Point,
 ) -> Course
-    ensures { λ r. ⌜ r ≡ underCourse points dv today issuer name point ⌝ }
+    ensures { λ r. ⌜ r ≡ underCourse points dv today which name point ⌝ }
 {
     let own = point.name;
     let rights = point.rights;
-    let holder = points.holder(issuer, dv);
-    let root = holder.rights;
-    let title = holder.name;
+    let issuer = points.issuer(which, dv);
+    let trusted = issuer.rights;
+    let issuer_name = issuer.name;
     let role = rights.role();
-    let placed = outcome::issues(issuer, role);
+    let placed = outcome::issues(which, role);
     let repeated = repeats(points, dv, own, role);
-    let named = name.same(title);
-    let past = late(today, point, holder, role);
-    let taken = outcome::taken(role, root);
+    let named = name.same(issuer_name);
+    let past = late(today, point, issuer, role);
+    let taken = outcome::taken(role, trusted);
     order::verify(!placed, repeated, !named, past, taken)
 }
 

@@ -25,10 +25,10 @@ use Rattle.fields.specs.Issuers.{verified, verifyOf}
 use Rattle.fields.specs.Asked.{dataOf, asking, askedOf}
 use Rattle.reply.specs.Bytes.{lengthBytes, object}
 use Rattle.reply.specs.Reply as reply
-use Rattle.trust.specs.Trust.{anchorFits, onePoint, pointsFit, knows, found, linked}
+use Rattle.trust.specs.Trust.{trustPointFits, onePoint, pointsFit, knows, found, linked}
 use Rattle.standing.specs.Standing.{noChain}
 use Rattle.moment.specs.Moment.{momentOf}
-use Rattle.bounds.specs.Bounds.{rootFits, dvFits, terminalFits, chainFits, groundFits, contextFits}
+use Rattle.bounds.specs.Bounds.{trustedFits, dvFits, terminalFits, chainFits, groundFits, contextFits}
 use Rattle.authorization.specs.Authorization.{sharedBy, authorization}
 use Rattle.token.specs.State.{startOf}
 use Rattle.token.specs.Limits.{inLimits}
@@ -41,7 +41,7 @@ use Rattle.token.specs.Step.{stepOf}
 use Rattle.claims.specs.Values.{Values}
 
 pub values-met : Values
-unfolding objectsIn objects objectsOf foundIn headerOf tagOf tag2 lenOf len1 len2 counted taken copiedInto isName nameOf noName nameFits sameName keyOf noKey keyFits keyStands isDate dayFits isDay before later rightsFit roleOf isRights andOf common groupMask readsGroup noPoint pointFits expired withKey number isPublicKey isSignature wholeOf signedWhole signedOf versionThen issuerThen keyThen ownThen rightsThen firstThen lastThen extThen formOf afterHeader bodyOf extendedOf shortOf longOf afterShort afterLong kindOf shapeOf headedOf wordOf settledBy awaitsBy endsBy passesBy judgedOf awaitedOf courseOf reading lastly fitted lastOf holds only verifying choiceOf protocolThen passwordThen choice.rightsThen chosenBy generalOf heldIn verified verifyOf dataOf asking askedOf lengthBytes object reply.dataOf reply.replyOf anchorFits onePoint pointsFit knows found linked noChain momentOf rootFits dvFits terminalFits chainFits groundFits contextFits sharedBy authorization startOf inLimits choosePlan runPlan generalPlan readPlan repeats late underCourse underPlan verifyPlan commandOf timedOf requestedOf guarded planOf choiceTaken runClosed trialLost linkTaken dvTaken terminalTaken afterOf layoutOf replyTo stepOf
+unfolding objectsIn objects objectsOf foundIn headerOf tagOf tag2 lenOf len1 len2 counted taken copiedInto isName nameOf noName nameFits sameName keyOf noKey keyFits keyStands isDate dayFits isDay before later rightsFit roleOf isRights andOf common groupMask readsGroup noPoint pointFits expired withKey number isPublicKey isSignature wholeOf signedWhole signedOf versionThen issuerThen keyThen ownThen rightsThen firstThen lastThen extThen formOf afterHeader bodyOf extendedOf shortOf longOf afterShort afterLong kindOf shapeOf headedOf wordOf settledBy awaitsBy endsBy passesBy judgedOf awaitedOf courseOf reading lastly fitted lastOf holds only verifying choiceOf protocolThen passwordThen choice.rightsThen chosenBy generalOf heldIn verified verifyOf dataOf asking askedOf lengthBytes object reply.dataOf reply.replyOf trustPointFits onePoint pointsFit knows found linked noChain momentOf trustedFits dvFits terminalFits chainFits groundFits contextFits sharedBy authorization startOf inLimits choosePlan runPlan generalPlan readPlan repeats late underCourse underPlan verifyPlan commandOf timedOf requestedOf guarded planOf choiceTaken runClosed trialLost linkTaken dvTaken terminalTaken afterOf layoutOf replyTo stepOf
 values-met =
     record {
       p1 = refl;

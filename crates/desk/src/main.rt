@@ -7,7 +7,7 @@ use text::front;
 use text::past;
 use text::put;
 use wording::ANSWER;
-use wording::LINE;
+use words::LINE;
 
 // The desk, and how much of a line is kept so far.
 struct Fed {

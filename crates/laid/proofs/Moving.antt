@@ -1,7 +1,7 @@
--- What the methods do, and that each of them moves a desk as it may be moved. Assumes nothing.
+-- What the methods do, and what may become of a desk. Assumes nothing.
 use Prim.Native.Nat.{ℕ}
 use mathlib.Core.Path.{_≡_, refl}
-use mathlib.Core.Bool.{true, false}
+use mathlib.Core.Bool.{false}
 use mathlib.Core.List.{List}
 use Rattle.days.specs.declared.Day.{Day}
 use Rattle.course.specs.declared.Note.{Note}
@@ -14,7 +14,7 @@ use Rattle.token.specs.declared.state.Personalised.{Personalised}
 use Rattle.token.specs.State.{noToken, madeOf, resetOf}
 use Rattle.token.specs.Step.{stepOf}
 use Rattle.laid.specs.declared.Desk.{Desk}
-use Rattle.laid.specs.Moves.{emptyDesk, holding, withToken, laidBy, laidOf, resetDesk, steppedDesk, Moved, stays, made, reset, stepped}
+use Rattle.laid.specs.Moves.{emptyDesk, holding, withToken, laidBy, laidOf, resetDesk, steppedDesk, Made, unmade, made, Stepped, stepped}
 
 -- ---- the methods
 
@@ -39,24 +39,15 @@ module _ (d : Desk) (t : Token) where
   unfolding steppedDesk
   step-there s first second note result size e = rw e
 
--- ---- each of them is a move
+-- ---- what may become of a desk
 
-pub stays-there : (d : Desk) → Moved d d
-stays-there d = stays
+pub made-as : (d r : Desk) (q : Personalised) (p : Points) (today : Day) → q ≡ madeOf p today → r ≡ laidOf d q → Made d r
+unfolding laidOf
+made-as d r q p today e f = rw (f, e) (go (madeOf p today .made) refl)
+  where
+    go : (m : Intake) → madeOf p today .made ≡ m → Made d (laidBy (madeOf p today .made) d (madeOf p today .token))
+    go Accepted h = rw h (made p today h)
+    go Unfit h = rw h unmade
 
-module _ (d r : Desk) where
-  pub laid-moves : (q : Personalised) (p : Points) (today : Day) → q ≡ madeOf p today → r ≡ laidOf d q → Moved d r
-  unfolding laidOf
-  laid-moves q p today e f = rw (f, e) (go (madeOf p today .made) refl)
-    where
-      go : (m : Intake) → madeOf p today .made ≡ m → Moved d (laidBy (madeOf p today .made) d (madeOf p today .token))
-      go Accepted h = rw h (made p today h)
-      go Unfit h = rw h stays
-
-  pub reset-moves : r ≡ resetDesk d → Moved d r
-  unfolding resetDesk
-  reset-moves e = rw e reset
-
-  pub step-moves : (s first second : List ℕ) (note : Note) (result : Answered) (size : ℕ) → r ≡ steppedDesk d s note result first second size → Moved d r
-  unfolding steppedDesk
-  step-moves s first second note result size e = rw e (stepped s first second note result size)
+pub stepped-as : (d r : Desk) (s first second : List ℕ) (note : Note) (result : Answered) (size : ℕ) → r ≡ steppedDesk d s note result first second size → Stepped d r
+stepped-as d r s first second note result size e = rw e (stepped s first second note result size)

@@ -41,9 +41,12 @@ resetDesk d = withToken d (resetOf (d .token))
 unfoldable pub steppedDesk : Desk → List ℕ → Note → Answered → List ℕ → List ℕ → ℕ → Desk
 steppedDesk d s note result first second size = withToken d (stepOf (d .token) s note result first second size .token)
 
--- it stays, or it is a token that a personalisation accepts, or its token after a reset or after one step; and nothing else
-pub data Moved (d : Desk) : Desk → Type 0 where
-  stays : Moved d d
-  made : (p : Points) (today : Day) → madeOf p today .made ≡ Accepted → Moved d (holding (madeOf p today .token))
-  reset : Moved d (withToken d (resetOf (d .token)))
-  stepped : (s first second : List ℕ) (note : Note) (result : Answered) (size : ℕ) → Moved d (withToken d (stepOf (d .token) s note result first second size .token))
+-- a personalisation: a token that one accepts, or as it was
+pub data Made (d : Desk) : Desk → Type 0 where
+  unmade : Made d d
+  made : (p : Points) (today : Day) → madeOf p today .made ≡ Accepted → Made d (holding (madeOf p today .token))
+
+-- a command: its token after one step, or as it was
+pub data Stepped (d : Desk) : Desk → Type 0 where
+  unstepped : Stepped d d
+  stepped : (s first second : List ℕ) (note : Note) (result : Answered) (size : ℕ) → Stepped d (steppedDesk d s note result first second size)

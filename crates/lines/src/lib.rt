@@ -1,22 +1,39 @@
 // The desk's language: a line about a token, and its answer.
 ghost use Prim.Native.Nat.{_≤_};
 ghost use lib.ListN.{length};
-ghost use Rattle.laid.specs.Moves.{Moved};
+ghost use mathlib.Core.Path.{_≡_};
+ghost use Rattle.words.specs.Verbs.{verbOf, actOf};
+ghost use Rattle.lines.specs.Turns.{resetBy, Turned};
 use laid::Desk;
 use laid::Turn;
 use strings::clip;
 use text::put;
 use token::state::Token;
 use wording::body::body;
-use wording::verb::Verb;
-use wording::verb::finished;
-use wording::verb::verb_of;
-use wording::words::spaces;
+use wording::expected::finished;
+use words::Act;
+use words::Verb;
+use words::count;
+use words::verb_of;
 
 mod asked;
 mod personalise;
 mod send;
 mod state;
+
+fn reset(desk: Desk, line: &[u8], out: &mut [u8]) -> Turn
+    ensures { λ r. ⌜ r .desk ≡ resetBy desk (now (line .entry)) ⌝ }
+{
+    if count(line, b' ') != 0 {
+        return Turn { desk: desk, len: 0 };
+    }
+    let next = desk.reset();
+    let len = put(&mut *out, 0, b"ok");
+    Turn {
+        desk: next,
+        len: len,
+    }
+}
 
 // The answer to a line that changes nothing, if it is as it should be.
 fn told(token: Token, verb: Verb, line: &[u8], out: &mut [u8]) -> usize {
@@ -29,44 +46,28 @@ fn told(token: Token, verb: Verb, line: &[u8], out: &mut [u8]) -> usize {
     }
 }
 
-fn reset(desk: Desk, line: &[u8], out: &mut [u8]) -> Turn
-    ensures { λ r. ⌜ Moved desk (r .desk) ⌝ }
-{
-    if spaces(line) != 0 {
-        return Turn { desk: desk, len: 0 };
-    }
-    let next = desk.reset();
-    let len = put(&mut *out, 0, b"ok");
-    Turn {
-        desk: next,
-        len: len,
-    }
-}
-
 // A line that is as it should be is carried out; no other is answered here.
 fn carried(desk: Desk, verb: Verb, line: &[u8], out: &mut [u8]) -> Turn
-    ensures { λ r. ⌜ Moved desk (r .desk) ⌝ }
+    ensures { λ r. ⌜ Turned desk (now (line .entry)) (r .desk) (actOf verb) ⌝ }
 {
-    if let Verb::Personalise = verb {
-        return personalise::personalise(desk, line, &mut *out);
-    }
-    if let Verb::Send = verb {
-        return send::send(desk, line, &mut *out);
-    }
-    if let Verb::Reset = verb {
-        return reset(desk, line, &mut *out);
-    }
-    let token = desk.token;
-    let len = told(token, verb, line, &mut *out);
-    Turn {
-        desk: desk,
-        len: len,
+    match verb.act() {
+        Act::Personalises => personalise::personalise(desk, line, &mut *out),
+        Act::Sends => send::send(desk, line, &mut *out),
+        Act::Resets => reset(desk, line, &mut *out),
+        Act::Tells => {
+            let token = desk.token;
+            let len = told(token, verb, line, &mut *out);
+            Turn {
+                desk: desk,
+                len: len,
+            }
+        }
     }
 }
 
 // Answers a line, which has no line feed; the answer has none either.
 pub fn answer(desk: Desk, line: &[u8], out: &mut [u8]) -> Turn
-    ensures { λ r. ⌜ Moved desk (r .desk) ⌝ }
+    ensures { λ r. ⌜ Turned desk (now (line .entry)) (r .desk) (actOf (verbOf (now (line .entry)) (desk .held))) ⌝ }
     ensures { λ r. ⌜ r .len ≤ length (now (out .entry)) ⌝ }
 {
     let verb = verb_of(line, desk.held);

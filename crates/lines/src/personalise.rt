@@ -1,18 +1,19 @@
 // A token made anew.
 ghost use mathlib.Core.Path.{_≡_};
-ghost use Rattle.laid.specs.Moves.{laidOf, Moved};
+ghost use Rattle.laid.specs.Moves.{laidOf, Made};
 use laid::Desk;
 use laid::Turn;
 use status::Intake;
 use text::put;
 use token::state::Personalised;
 use token::state::Token;
+use wording::expected::refused;
 use wording::personalisation::read_personalisation;
 
 fn said(out: &mut [u8], made: Intake) -> usize {
     match made {
         Intake::Accepted => put(&mut *out, 0, b"ok"),
-        Intake::Unfit => put(&mut *out, 0, b"6A80"),
+        Intake::Unfit => refused(&mut *out, made),
     }
 }
 
@@ -30,7 +31,7 @@ fn answered(desk: Desk, p: Personalised, out: &mut [u8]) -> Turn
 }
 
 pub(crate) fn personalise(desk: Desk, line: &[u8], out: &mut [u8]) -> Turn
-    ensures { λ r. ⌜ Moved desk (r .desk) ⌝ }
+    ensures { λ r. ⌜ Made desk (r .desk) ⌝ }
 {
     let x = read_personalisation(line);
     let today = x.today;

@@ -1,5 +1,5 @@
 // A command sent, with its crypto result.
-ghost use Rattle.laid.specs.Moves.{Moved};
+ghost use Rattle.laid.specs.Moves.{Stepped};
 use laid::Desk;
 use laid::Turn;
 use reply::ROOM;
@@ -12,7 +12,7 @@ use wording::send::replied;
 
 // One step with what the words state; the reply in hex.
 fn step_of(desk: Desk, x: Sent, command: &[u8], first: &[u8], second: &[u8], out: &mut [u8]) -> Turn
-    ensures { λ r. ⌜ Moved desk (r .desk) ⌝ }
+    ensures { λ r. ⌜ Stepped desk (r .desk) ⌝ }
 {
     let token = desk.token;
     let note = x.note;
@@ -20,7 +20,7 @@ fn step_of(desk: Desk, x: Sent, command: &[u8], first: &[u8], second: &[u8], out
     let named = x.job;
     let s = front(command, x.command);
     let wanted = token.job(s, note);
-    let job = named.settled(wanted);
+    let job = named.job_or(wanted);
     let result = Answered {
         job: job,
         verdict: verdict,
@@ -40,7 +40,7 @@ fn step_of(desk: Desk, x: Sent, command: &[u8], first: &[u8], second: &[u8], out
 }
 
 pub(crate) fn send(desk: Desk, line: &[u8], out: &mut [u8]) -> Turn
-    ensures { λ r. ⌜ Moved desk (r .desk) ⌝ }
+    ensures { λ r. ⌜ Stepped desk (r .desk) ⌝ }
 {
     let mut command = [0u8; BYTES];
     let mut first = [0u8; BYTES];

@@ -3,10 +3,10 @@ use authorization::authorization;
 use token::state::Token;
 use wording::state::kept;
 use wording::state::lost;
-use wording::words::spaces;
+use words::count;
 
 pub(crate) fn state(token: Token, line: &[u8], out: &mut [u8]) -> usize {
-    if spaces(line) != 0 {
+    if count(line, b' ') != 0 {
         return 0;
     }
     let today = token.today;

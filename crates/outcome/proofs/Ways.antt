@@ -33,7 +33,7 @@ module _ (c : Choice) (pin : ℕ) (w : Password) (b : Bool) (e : w ≡ passwordO
   pub trial-other : b ≡ false → RunClosed ≡ trialOf c pin
   trial-other h = rw (← e, ← f, h)
 
-pub taken-arm : (root : Rights) (x d : Role) (r : Event) → x ≡ d → r ≡ takenEvent d root → r ≡ takenEvent x root
-taken-arm root x d r e z = z ∙ ap (λ (y : Role). takenEvent y root) (sym e)
+pub taken-arm : (trusted : Rights) (x d : Role) (r : Event) → x ≡ d → r ≡ takenEvent d trusted → r ≡ takenEvent x trusted
+taken-arm trusted x d r e z = z ∙ ap (λ (y : Role). takenEvent y trusted) (sym e)
 
 pub ruleset ways = (passed-last, passed-other, other-last, other-other, trial-pin, trial-other, taken-arm, needs)

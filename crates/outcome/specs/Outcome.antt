@@ -33,7 +33,7 @@ issues Dv role = isTerminal role
 
 -- "a link becomes newest ..; a DV replaces the chain; a terminal its terminal"
 abbrev pub takenEvent : Role → Rights → Event
-takenEvent Cvca root = LinkTaken
-takenEvent OfficialDv root = DvTaken root
-takenEvent OtherDv root = DvTaken root
-takenEvent Terminal root = TerminalTaken
+takenEvent Cvca trusted = LinkTaken
+takenEvent OfficialDv trusted = DvTaken trusted
+takenEvent OtherDv trusted = DvTaken trusted
+takenEvent Terminal trusted = TerminalTaken

@@ -62,13 +62,13 @@ pub fn issues(issuer: Issuer, role: Role) -> bool
 }
 
 // What a verified certificate of this role is, under a trust point or DV with these rights.
-pub fn taken(role: Role, root: Rights) -> Event
-    ensures { λ r. ⌜ r ≡ takenEvent role root ⌝ }
+pub fn taken(role: Role, trusted: Rights) -> Event
+    ensures { λ r. ⌜ r ≡ takenEvent role trusted ⌝ }
 {
     match role {
         Role::Cvca => Event::LinkTaken,
-        Role::OfficialDv => Event::DvTaken(root),
-        Role::OtherDv => Event::DvTaken(root),
+        Role::OfficialDv => Event::DvTaken(trusted),
+        Role::OtherDv => Event::DvTaken(trusted),
         Role::Terminal => Event::TerminalTaken,
     }
 }

@@ -27,8 +27,8 @@ otherwise-pinned c p pin = pinned _
 pub issues-pinned : (i : Issuer) (role : Role) → Pinned Bool (issues i role)
 issues-pinned i role = pinned _
 
-pub taken-pinned : (role : Role) (root : Rights) → Pinned Event (takenEvent role root)
-taken-pinned role root = pinned _
+pub taken-pinned : (role : Role) (trusted : Rights) → Pinned Event (takenEvent role trusted)
+taken-pinned role trusted = pinned _
 
 pub verify-pinned : (misplaced repeated unnamed late : Bool) (taken : Event) → Pinned Course (verifyLadder misplaced repeated unnamed late taken)
 verify-pinned misplaced repeated unnamed late taken = pinned _

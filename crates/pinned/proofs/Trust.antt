@@ -4,9 +4,9 @@ use Rattle.laws.proofs.Pinned.{Pinned, pinned}
 use Rattle.names.specs.declared.Name.{Name}
 use Rattle.points.specs.declared.Point.{Point}
 use Rattle.event.specs.declared.Issuer.{Issuer}
-use Rattle.trust.specs.Trust.{onePoint, twoPoints, pointsFit, knows, found, holderOf, linked}
+use Rattle.trust.specs.Trust.{onePoint, twoPoints, pointsFit, knows, found, issuerOf, linked}
 use Rattle.trust.specs.declared.Points.{Points}
-use Rattle.trust.specs.declared.Anchor.{Anchor}
+use Rattle.trust.specs.declared.Trusted.{Trusted}
 
 pub one-pinned : (newest : Point) → Pinned Points (onePoint newest)
 one-pinned newest = pinned _
@@ -20,11 +20,11 @@ fit-pinned h = pinned _
 pub knows-pinned : (h : Points) (n : Name) → Pinned Bool (knows h n)
 knows-pinned h n = pinned _
 
-pub find-pinned : (h : Points) (n : Name) → Pinned Anchor (found h n)
+pub find-pinned : (h : Points) (n : Name) → Pinned Trusted (found h n)
 find-pinned h n = pinned _
 
-pub holder-pinned : (h : Points) (i : Issuer) (dv : Point) → Pinned Point (holderOf h i dv)
-holder-pinned h i dv = pinned _
+pub issuer-pinned : (h : Points) (i : Issuer) (dv : Point) → Pinned Point (issuerOf h i dv)
+issuer-pinned h i dv = pinned _
 
 pub linked-pinned : (h : Points) (link : Point) → Pinned Points (linked h link)
 linked-pinned h link = pinned _

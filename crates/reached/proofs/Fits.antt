@@ -44,10 +44,10 @@ use Rattle.settle.specs.Settle.{takenIn, endsBy, passesBy}
 use Rattle.settle.proofs.Settles.{settle-all}
 use Rattle.order.specs.Order.{chooseLadder, verifyLadder, unblockLadder}
 use Rattle.outcome.specs.Outcome.{passedEvent, otherEvent, issues, takenEvent}
-use Rattle.trust.specs.Trust.{pointsFit, knows, found, holderOf}
+use Rattle.trust.specs.Trust.{pointsFit, knows, found, issuerOf}
 use Rattle.trust.specs.declared.Points.{Points}
-use Rattle.trust.specs.declared.Anchor.{Anchor}
-use Rattle.trust.specs.declared.Anchor.the-variants.{Is, Unknown}
+use Rattle.trust.specs.declared.Trusted.{Trusted}
+use Rattle.trust.specs.declared.Trusted.the-variants.{Is, Unknown}
 use Rattle.fields.specs.declared.asked.Content.{Content}
 use Rattle.fields.specs.declared.asked.Content.the-variants.{Step as StepData, Chip}
 use Rattle.fields.specs.declared.asked.Ask.{Ask}
@@ -300,7 +300,7 @@ module _ (t : Token) (a : Asked) where
     unfolding selectPlan
     select-fits n q = go (found (t .points) n) refl
       where
-        go : (x : Anchor) → found (t .points) n ≡ x → Plan·Fits t a (selectBy (chainOf t) n x)
+        go : (x : Trusted) → found (t .points) n ≡ x → Plan·Fits t a (selectBy (chainOf t) n x)
         go (Is i) e = once _ (is-selected q (found-selects n i e), refl)
         go Unknown e =
             rung (Plan·Fits t a) (hasDv (chainOf t) && sameName n (chainOf t .dv .name)) (λ f. once _ (is-selected q (to-dv (and-l (hasDv (chainOf t)) (sameName n (chainOf t .dv .name)) f)), refl)) (λ f. refuses NotFound)
@@ -308,8 +308,8 @@ module _ (t : Token) (a : Asked) where
     -- under each issuer, each role
     module _ (q : a .request ≡ Asks m ch Verify) (c : certifying t ≡ true) where
       taken-fits : (i : Issuer) (o : Role) → roleOf (a .point .rights) ≡ o → selectable (Chose i) (t .points .two) (hasDv (chainOf t)) ≡ true → not (issues i o) ≡ false
-          → repeats (t .points) (chainOf t .dv) (a .point .name) o ≡ false → not (sameName (a .name) (holderOf (t .points) i (chainOf t .dv) .name)) ≡ false
-          → (n : ℕ) → Fits t a (takenEvent o (holderOf (t .points) i (chainOf t .dv) .rights)) (withKey (a .point) n) noKey
+          → repeats (t .points) (chainOf t .dv) (a .point .name) o ≡ false → not (sameName (a .name) (issuerOf (t .points) i (chainOf t .dv) .name)) ≡ false
+          → (n : ℕ) → Fits t a (takenEvent o (issuerOf (t .points) i (chainOf t .dv) .rights)) (withKey (a .point) n) noKey
       unfolding repeats
       taken-fits Newest Cvca r s e f g n = is-link-taken n q c r (or-l (knows (t .points) (a .point .name)) _ f)
       taken-fits Newest OfficialDv r s e f g n = is-dv-taken n q c (rw r) (or-l (knows (t .points) (a .point .name)) _ f) as-newest (not-false _ g)
@@ -328,7 +328,7 @@ module _ (t : Token) (a : Asked) where
       unfolding underPlan underCourse
       under-fits i s =
           let o : Role = roleOf (a .point .rights) in
-          let h : Point = holderOf (t .points) i (chainOf t .dv) in
+          let h : Point = issuerOf (t .points) i (chainOf t .dv) in
           verify-ways (not (issues i o)) (repeats (t .points) (chainOf t .dv) (a .point .name) o) (not (sameName (a .name) (h .name))) (late (t .today) (a .point) h o) (takenEvent o (h .rights)) (taken-fits i o refl s)
           (not-passed q verifying)
 

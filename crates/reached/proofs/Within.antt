@@ -30,7 +30,7 @@ use Rattle.event.specs.declared.Issuer.{Issuer}
 use Rattle.event.specs.declared.Event.{Event}
 use Rattle.course.specs.declared.Note.{Note}
 use Rattle.settle.specs.declared.Answered.{Answered}
-use Rattle.trust.specs.Trust.{anchorFits, pointsFit, knows, linked}
+use Rattle.trust.specs.Trust.{trustPointFits, pointsFit, knows, linked}
 use Rattle.trust.specs.declared.Points.{Points}
 use Rattle.fields.specs.declared.asked.Ask.{Ask}
 use Rattle.fields.specs.declared.asked.Request.the-variants.{Asks}
@@ -51,7 +51,7 @@ use Rattle.session.specs.declared.Session.{Session}
 use Rattle.standing.proofs.Stages.{challenged-is, Challengeable, when-announced, when-challenged, challengeable, Choosable, when-proven, when-chosen, choosable}
 use Rattle.standing.specs.Standing.{openedByPin, openedByCan, hasRights, reachesDv, reachesTerminal, hasDv, hasTerminal, noChain, fromAnnounced, unproven}
 use Rattle.session.specs.Session.{bareSession, atStage, announcedWith, chainedTo}
-use Rattle.bounds.specs.Bounds.{grantedFits, rootFits, dvFits, terminalFits, reachFits, chainFits, runFits, stageFits, groundFits, contextFits}
+use Rattle.bounds.specs.Bounds.{grantedFits, trustedFits, dvFits, terminalFits, reachFits, chainFits, runFits, stageFits, groundFits, contextFits}
 use Rattle.token.specs.declared.state.Token.{Token}
 use Rattle.status.specs.declared.Intake.the-variants.{Accepted, Unfit}
 use Rattle.token.specs.declared.state.Personalised.{Personalised}
@@ -153,32 +153,32 @@ unfolding pointFits
 point-of p h = let k = and-5 (nameFits (p .name)) (rightsFit (p .rights)) (dayFits (p .first)) (dayFits (p .last)) (not (before (p .last) (p .first))) h in record { rights = k .1; first = k .2 }
 
 -- each held trust point is one
-held-anchor : (h : Points) {p : Point} → pointsFit h ≡ true → Holds h p → anchorFits p ≡ true
+held-fits : (h : Points) {p : Point} → pointsFit h ≡ true → Holds h p → trustPointFits p ≡ true
 unfolding pointsFit
-held-anchor h e as-newest = and-l (anchorFits (h .newest)) (not (h .two) || (anchorFits (h .previous) && not (sameName (h .previous .name) (h .newest .name)))) e
-held-anchor h e (as-previous two) =
-    and-l (anchorFits (h .previous)) (not (sameName (h .previous .name) (h .newest .name)))
-    (or-then (h .two) (anchorFits (h .previous) && not (sameName (h .previous .name) (h .newest .name)))
-    (and-r (anchorFits (h .newest)) (not (h .two) || (anchorFits (h .previous) && not (sameName (h .previous .name) (h .newest .name)))) e) two)
+held-fits h e as-newest = and-l (trustPointFits (h .newest)) (not (h .two) || (trustPointFits (h .previous) && not (sameName (h .previous .name) (h .newest .name)))) e
+held-fits h e (as-previous two) =
+    and-l (trustPointFits (h .previous)) (not (sameName (h .previous .name) (h .newest .name)))
+    (or-then (h .two) (trustPointFits (h .previous) && not (sameName (h .previous .name) (h .newest .name)))
+    (and-r (trustPointFits (h .newest)) (not (h .two) || (trustPointFits (h .previous) && not (sameName (h .previous .name) (h .newest .name)))) e) two)
 
-anchor-root : (p : Point) → anchorFits p ≡ true → rootFits (p .rights) ≡ true
-unfolding anchorFits rootFits
-anchor-root p h =
+held-trusted : (p : Point) → trustPointFits p ≡ true → trustedFits (p .rights) ≡ true
+unfolding trustPointFits trustedFits
+held-trusted p h =
     both (rightsFit (p .rights)) (isCvca (roleOf (p .rights))) (point-of p (and-l (pointFits p) (isCvca (roleOf (p .rights))) h) .rights) (and-r (pointFits p) (isCvca (roleOf (p .rights))) h)
 
 -- a link among the trust points
 linked-in : (h : Points) (p : Point) (n : ℕ) → pointsFit h ≡ true → pointFits p ≡ true → roleOf (p .rights) ≡ Cvca → knows h (p .name) ≡ false → pointsFit (linked h (withKey p n)) ≡ true
-unfolding pointsFit anchorFits linked withKey pointFits knows
+unfolding pointsFit trustPointFits linked withKey pointFits knows
 linked-in h p n e f g k =
-    let a = and-l (anchorFits (h .newest)) (not (h .two) || (anchorFits (h .previous) && not (sameName (h .previous .name) (h .newest .name)))) e in
+    let a = and-l (trustPointFits (h .newest)) (not (h .two) || (trustPointFits (h .previous) && not (sameName (h .previous .name) (h .newest .name)))) e in
     let d : sameName (h .newest .name) (p .name) ≡ false = same-turned (h .newest .name) (p .name) ∙ or-l (sameName (p .name) (h .newest .name)) (h .two && sameName (p .name) (h .previous .name)) k in
     rw (g, d) (both _ _ (both _ _ f refl) (both _ _ a refl))
 
 -- ---- a chain
 
-chain-dv : (root : Rights) (p n : Point) → rootFits root ≡ true → dvFits p ≡ true → chainFits (record { reach = ToDv root; dv = p; terminal = n }) ≡ true
+chain-dv : (trusted : Rights) (p n : Point) → trustedFits trusted ≡ true → dvFits p ≡ true → chainFits (record { reach = ToDv trusted; dv = p; terminal = n }) ≡ true
 unfolding chainFits
-chain-dv root p n e f = rw (e, f)
+chain-dv trusted p n e f = rw (e, f)
 
 chain-terminal : (c : Chain) (p : Point) → chainFits c ≡ true → hasDv c ≡ true → terminalFits p ≡ true → chainFits (record { reach = extended (c .reach); dv = c .dv; terminal = p }) ≡ true
 unfolding chainFits
@@ -186,21 +186,21 @@ chain-terminal c p e h f = go (c .reach) e h
   where
     go : (r : Reach) → reachFits r (c .dv) (c .terminal) ≡ true → reachesDv r ≡ true → reachFits (extended r) (c .dv) p ≡ true
     go Empty e h = true-false (sym h)
-    go (ToDv root) e h = rw (f) (both _ _ e refl)
-    go (ToTerminal root) e h = rw (f) (both _ _ (and-l (rootFits root && dvFits (c .dv)) (terminalFits (c .terminal)) e) refl)
+    go (ToDv trusted) e h = rw (f) (both _ _ e refl)
+    go (ToTerminal trusted) e h = rw (f) (both _ _ (and-l (trustedFits trusted && dvFits (c .dv)) (terminalFits (c .terminal)) e) refl)
 
 terminal-dv : (c : Chain) → hasTerminal c ≡ true → hasDv c ≡ true
 terminal-dv c h = go (c .reach) h
   where
     go : (r : Reach) → reachesTerminal r ≡ true → reachesDv r ≡ true
     go Empty h = h
-    go (ToDv root) h = refl
-    go (ToTerminal root) h = refl
+    go (ToDv trusted) h = refl
+    go (ToTerminal trusted) h = refl
 
 extended-dv : (r : Reach) → reachesDv (extended r) ≡ reachesDv r
 extended-dv Empty = refl
-extended-dv (ToDv root) = refl
-extended-dv (ToTerminal root) = refl
+extended-dv (ToDv trusted) = refl
+extended-dv (ToTerminal trusted) = refl
 
 -- the opener of a session that names rights
 names-opener : (c : Choice) → not (hasRights (rightsNamed c)) || (isPin (passwordOf c) || isCan (passwordOf c)) ≡ true
@@ -323,7 +323,7 @@ module _ (t : Token) (l : InLimits t) where
           context =
               in-context
               (chained-in (t .session) (t .pin) (record { reach = ToDv (h .rights); dv = withKey p n; terminal = noPoint })
-              (chain-dv (h .rights) (withKey p n) noPoint (anchor-root h (held-anchor (t .points) (l .points) q)) (rw (f, r))) confirmed context-in);
+              (chain-dv (h .rights) (withKey p n) noPoint (held-trusted h (held-fits (t .points) (l .points) q)) (rw (f, r))) confirmed context-in);
           dv = rw k;
           chosen = refl;
         }

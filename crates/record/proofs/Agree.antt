@@ -29,7 +29,7 @@ use Rattle.run.specs.declared.Step.{Step}
 use Rattle.run.specs.declared.Step.the-variants.{Nonce, Map, Agree, Confirm}
 use Rattle.run.specs.Run.{passwordOf, rightsNamed, stepNumber, isLast, nextStep}
 use Rattle.event.specs.declared.Event.{Event}
-use Rattle.trust.specs.Trust.{anchorFits, pointsFit, linked}
+use Rattle.trust.specs.Trust.{trustPointFits, pointsFit, linked}
 use Rattle.trust.specs.declared.Points.{Points}
 use Rattle.fields.specs.declared.asked.Asked.{Asked}
 use Rattle.standing.specs.declared.Opened.{Opened}
@@ -60,13 +60,13 @@ confirmedBy (By w) g = naming w g
 -- the DV, if there is one, is the record's latest
 abbrev pub Below : Reach → Point → Option Dv → Type 0
 Below Empty d o = Unit {0}
-Below (ToDv root) d o = o ≡ some (record { trusted = some root; name = d .name; rights = d .rights })
-Below (ToTerminal root) d o = o ≡ some (record { trusted = some root; name = d .name; rights = d .rights })
+Below (ToDv trusted) d o = o ≡ some (record { trusted = some trusted; name = d .name; rights = d .rights })
+Below (ToTerminal trusted) d o = o ≡ some (record { trusted = some trusted; name = d .name; rights = d .rights })
 
 abbrev pub chainRightsOf : Reach → Point → Point → Option ChainRights
 chainRightsOf Empty d u = none
-chainRightsOf (ToDv root) d u = none
-chainRightsOf (ToTerminal root) d u = some (record { trusted = root; dv = d .rights; terminal = u .rights })
+chainRightsOf (ToDv trusted) d u = none
+chainRightsOf (ToTerminal trusted) d u = some (record { trusted = trusted; dv = d .rights; terminal = u .rights })
 
 -- the steps passed before this one
 abbrev pub turns : Step → ℕ
@@ -100,9 +100,9 @@ differ : (ps : Points) → pointsFit ps ≡ true → ps .two ≡ true → sameNa
 unfolding pointsFit
 differ ps f two =
     not-true (sameName (ps .previous .name) (ps .newest .name))
-    (and-r (anchorFits (ps .previous)) (not (sameName (ps .previous .name) (ps .newest .name)))
-    (or-then (ps .two) (anchorFits (ps .previous) && not (sameName (ps .previous .name) (ps .newest .name)))
-    (and-r (anchorFits (ps .newest)) (not (ps .two) || (anchorFits (ps .previous) && not (sameName (ps .previous .name) (ps .newest .name)))) f) two))
+    (and-r (trustPointFits (ps .previous)) (not (sameName (ps .previous .name) (ps .newest .name)))
+    (or-then (ps .two) (trustPointFits (ps .previous) && not (sameName (ps .previous .name) (ps .newest .name)))
+    (and-r (trustPointFits (ps .newest)) (not (ps .two) || (trustPointFits (ps .previous) && not (sameName (ps .previous .name) (ps .newest .name)))) f) two))
 
 found : (ps : Points) {p : Point} (n : Name) → pointsFit ps ≡ true → Holds ps p → sameName n (p .name) ≡ true → rightsIn (trustPoints ps) n ≡ some (p .rights)
 found ps n f as-newest e = rw e
@@ -228,21 +228,21 @@ module _ {h : Held} {ps : Points} {r : List Fact} where
     unfolding withKey
     completed-now k e f s = go (c .chain .reach) f (i .dv)
       where
-        under-dv : (root : Rights) → lastDv h r ≡ some (record { trusted = some root; name = c .chain .dv .name; rights = c .chain .dv .rights })
-            → ruleB h (Accepted n p ∷ r) ≡ some (record { trusted = root; dv = c .chain .dv .rights; terminal = p .rights })
-        under-dv root d =
+        under-dv : (trusted : Rights) → lastDv h r ≡ some (record { trusted = some trusted; name = c .chain .dv .name; rights = c .chain .dv .rights })
+            → ruleB h (Accepted n p ∷ r) ≡ some (record { trusted = trusted; dv = c .chain .dv .rights; terminal = p .rights })
+        under-dv trusted d =
             ap (λ (x : Role). orElse (under (lastDv h r) n p x) none) e ∙ ap (λ (x : Option Dv). orElse (under x n p Terminal) none) d
-            ∙ ap (λ (b : Bool). orElse (cond b (some (record { trusted = root; dv = c .chain .dv .rights; terminal = p .rights })) none) none) s
+            ∙ ap (λ (b : Bool). orElse (cond b (some (record { trusted = trusted; dv = c .chain .dv .rights; terminal = p .rights })) none) none) s
 
-        with-root : (root : Rights) → lastDv h r ≡ some (record { trusted = some root; name = c .chain .dv .name; rights = c .chain .dv .rights })
-            → Inv h ps (record { opened = c .opened; confirmed = c .confirmed; chain = record { reach = ToTerminal root; dv = c .chain .dv; terminal = withKey p k }; stage = Idle; key = noKey }) (Accepted n p ∷ r)
-        with-root root d = accepted ps _ (sym (held-by Terminal e)) (dv-at Terminal e ∙ d) (sym (under-dv root d))
+        with-trusted : (trusted : Rights) → lastDv h r ≡ some (record { trusted = some trusted; name = c .chain .dv .name; rights = c .chain .dv .rights })
+            → Inv h ps (record { opened = c .opened; confirmed = c .confirmed; chain = record { reach = ToTerminal trusted; dv = c .chain .dv; terminal = withKey p k }; stage = Idle; key = noKey }) (Accepted n p ∷ r)
+        with-trusted trusted d = accepted ps _ (sym (held-by Terminal e)) (dv-at Terminal e ∙ d) (sym (under-dv trusted d))
 
         go : (x : Reach) → reachesDv x ≡ true → Below x (c .chain .dv) (lastDv h r)
             → Inv h ps (record { opened = c .opened; confirmed = c .confirmed; chain = record { reach = extended x; dv = c .chain .dv; terminal = withKey p k }; stage = Idle; key = noKey }) (Accepted n p ∷ r)
         go Empty z d = true-false (sym z)
-        go (ToDv root) z d = with-root root d
-        go (ToTerminal root) z d = with-root root d
+        go (ToDv trusted) z d = with-trusted trusted d
+        go (ToTerminal trusted) z d = with-trusted trusted d
 
   announced-now : (c : Context) (k : Key) → Inv h ps c r
       → Inv h ps (record { opened = c .opened; confirmed = c .confirmed; chain = c .chain; stage = AtAnnounced; key = k }) (Announced ∷ r)

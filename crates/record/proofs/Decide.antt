@@ -60,7 +60,7 @@ use Rattle.session.specs.declared.Context.{Context}
 use Rattle.standing.proofs.Stages.{authenticated-is}
 use Rattle.standing.specs.Standing.{fromProven, isOpen, openedByPin, openedByCan, hasRights, hasTerminal, reachesTerminal, noRun, fromAnnounced, isAuthenticated}
 use Rattle.moment.specs.Moment.{momentOf}
-use Rattle.authorization.specs.Authorization.{rootOf, confirmedOf, authorization}
+use Rattle.authorization.specs.Authorization.{trustedOf, confirmedOf, authorization}
 use Rattle.authorization.proofs.Authorizes.{shared-right, effective-right}
 use Rattle.token.specs.State.{contextOf}
 use Rattle.token.specs.declared.state.Token.{Token}
@@ -241,7 +241,7 @@ whole c pin x a =
 
 -- a bit in all four
 abbrev all : Reach → Rights → Rights → Granted → ℕ → Bool
-all x d u g k = hasRight k (rootOf x) && hasRight k d && hasRight k u && hasRight k (confirmedOf g)
+all x d u g k = hasRight k (trustedOf x) && hasRight k d && hasRight k u && hasRight k (confirmedOf g)
 
 rule-bits : (n : ℕ) (a : Bool) (o : Opened) (g : Granted) (x : Reach) (d u : Point) → (a ≡ true → (isOpen o ≡ true) × (hasRights g ≡ true) × (reachesTerminal x ≡ true))
     → a && not (openedByCan o && not (all x (d .rights) (u .rights) g 4)) && all x (d .rights) (u .rights) g (7 + n) ≡ a && ruleE (confirmedBy o g) (chainRightsOf x d u) n
@@ -249,8 +249,8 @@ rule-bits n false o g x d u w = refl
 rule-bits n true Nobody g x d u w = true-false (sym (w refl .0))
 rule-bits n true (By p) NoRights x d u w = true-false (sym (w refl .1))
 rule-bits n true (By p) (These r) Empty d u w = true-false (sym (w refl .2))
-rule-bits n true (By p) (These r) (ToDv root) d u w = true-false (sym (w refl .2))
-rule-bits n true (By p) (These r) (ToTerminal root) d u w = with-can (isCan p) (all (ToTerminal root) (d .rights) (u .rights) (These r) 4) (all (ToTerminal root) (d .rights) (u .rights) (These r) (7 + n))
+rule-bits n true (By p) (These r) (ToDv trusted) d u w = true-false (sym (w refl .2))
+rule-bits n true (By p) (These r) (ToTerminal trusted) d u w = with-can (isCan p) (all (ToTerminal trusted) (d .rights) (u .rights) (These r) 4) (all (ToTerminal trusted) (d .rights) (u .rights) (These r) (7 + n))
 
 -- the token's test of group n, bit by bit
 abbrev byToken : Context → ℕ → Bool

@@ -23,7 +23,7 @@ use Rattle.reply.specs.Bytes.{lengthBytes, object as object·Bytes·reply}
 use Rattle.reply.specs.Lay.{over}
 use Rattle.reply.specs.Reply.{dataOf as dataOf·Reply·reply, replyOf}
 use Rattle.authorization.specs.Authorization.{sharedBy, authorization}
-use Rattle.bounds.specs.Bounds.{rootFits, dvFits, terminalFits, chainFits, groundFits, contextFits}
+use Rattle.bounds.specs.Bounds.{trustedFits, dvFits, terminalFits, chainFits, groundFits, contextFits}
 use Rattle.moment.specs.Moment.{momentOf}
 use Rattle.standing.specs.Standing.{noChain}
 use Rattle.token.specs.After.{choiceTaken, staged, stepPassed, opened, runClosed, trialLost, issuerSelected, linkTaken, dvTaken, terminalTaken, announced, unblocked, unblockedByPuk, afterOf}
@@ -34,7 +34,7 @@ use Rattle.token.specs.Plan.{commandOf, timedOf, requestedOf, guarded, planOf}
 use Rattle.token.specs.State.{resetOf, startOf, noToken, madeOf}
 use Rattle.answer.specs.Answer.{layoutOf, replyTo}
 use Rattle.token.specs.Step.{stepOf}
-use Rattle.trust.specs.Trust.{anchorFits, onePoint, twoPoints, pointsFit, knows, found, linked}
+use Rattle.trust.specs.Trust.{trustPointFits, onePoint, twoPoints, pointsFit, knows, found, linked}
 use Rattle.strings.specs.Bytes.{copiedInto}
 use Rattle.days.specs.Days.{isDate, dayFits, isDay, dated, before, later}
 use Rattle.keys.specs.Keys.{isKey, keyOf, noKey, keyIs, keyFits, keyStands}
@@ -47,7 +47,7 @@ use Rattle.record.specs.Worked.{AllWorked}
 use Rattle.record.specs.Judged.{AllJudged}
 
 pub all-worked : AllWorked
-unfolding unread isPublicKey isSignature extThen lastThen firstThen rightsThen ownThen keyThen issuerThen versionThen wholeOf bodyOf signedWhole signedOf keyObjects isSigned afterShort afterLong shortOf longOf extendedOf bodyOf·Form·command afterHeader formOf kindOf headedOf shapeOf settledBy awaitsBy wordOf endsBy passesBy judgedOf awaitedOf courseOf keyThen·Announce·fields auxiliaryThen terminalThen protocolThen announceOf dataOf refusing asking askedOf referenceIn chipOf chosenBy rightsThen·Choice·fields passwordThen protocolThen·Choice·fields choiceOf only selecting verifying announcing heldIn generalOf selectOf verified verifyOf proofOf pinOf reading lastly fitted lastOf holds counted taken tag2 tagOf len1 len2 lenOf headerOf objectsOf objects object objectsIn foundIn prescribed after readable lengthBytes object·Bytes·reply over dataOf·Reply·reply replyOf sharedBy authorization rootFits dvFits terminalFits chainFits groundFits contextFits momentOf noChain choiceTaken staged stepPassed opened runClosed trialLost issuerSelected linkTaken dvTaken terminalTaken announced unblocked unblockedByPuk afterOf selectPlan repeats late underCourse underPlan verifyPlan choosePlan runPlan chipPlan generalPlan announcePlan readPlan changePlan unblockPlan activePlan inLimits commandOf timedOf requestedOf guarded planOf resetOf startOf noToken madeOf layoutOf replyTo stepOf anchorFits onePoint twoPoints pointsFit knows found linked copiedInto isDate dayFits isDay dated before later isKey keyOf noKey keyIs keyFits keyStands isName nameOf noName nameFits sameName noPoint pointFits expired withKey rightsFit roleOf isRights granted andOf common groupMask readsGroup number
+unfolding unread isPublicKey isSignature extThen lastThen firstThen rightsThen ownThen keyThen issuerThen versionThen wholeOf bodyOf signedWhole signedOf keyObjects isSigned afterShort afterLong shortOf longOf extendedOf bodyOf·Form·command afterHeader formOf kindOf headedOf shapeOf settledBy awaitsBy wordOf endsBy passesBy judgedOf awaitedOf courseOf keyThen·Announce·fields auxiliaryThen terminalThen protocolThen announceOf dataOf refusing asking askedOf referenceIn chipOf chosenBy rightsThen·Choice·fields passwordThen protocolThen·Choice·fields choiceOf only selecting verifying announcing heldIn generalOf selectOf verified verifyOf proofOf pinOf reading lastly fitted lastOf holds counted taken tag2 tagOf len1 len2 lenOf headerOf objectsOf objects object objectsIn foundIn prescribed after readable lengthBytes object·Bytes·reply over dataOf·Reply·reply replyOf sharedBy authorization trustedFits dvFits terminalFits chainFits groundFits contextFits momentOf noChain choiceTaken staged stepPassed opened runClosed trialLost issuerSelected linkTaken dvTaken terminalTaken announced unblocked unblockedByPuk afterOf selectPlan repeats late underCourse underPlan verifyPlan choosePlan runPlan chipPlan generalPlan announcePlan readPlan changePlan unblockPlan activePlan inLimits commandOf timedOf requestedOf guarded planOf resetOf startOf noToken madeOf layoutOf replyTo stepOf trustPointFits onePoint twoPoints pointsFit knows found linked copiedInto isDate dayFits isDay dated before later isKey keyOf noKey keyIs keyFits keyStands isName nameOf noName nameFits sameName noPoint pointFits expired withKey rightsFit roleOf isRights granted andOf common groupMask readsGroup number
 all-worked = ((refl, refl), (refl, refl), (refl, refl), (refl, refl), (refl, refl), (refl, refl), (refl, refl), (refl, refl))
 
 pub all-judged : AllJudged

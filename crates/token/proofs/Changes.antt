@@ -68,10 +68,10 @@ module _ (t : Token) where
   unfolding linkTaken
   link-is p h z d e f g = rw (f, e, g)
 
-  pub dv-is : (p : Point) (root : Rights) (n : Point) (z : Session) (d : Day) → n ≡ noPoint → z ≡ chainedTo (t .session) (record { reach = ToDv root; dv = p; terminal = n })
-      → d ≡ later (t .today) (p .first) → withToday (withSession t z) d ≡ dvTaken t p root
+  pub dv-is : (p : Point) (trusted : Rights) (n : Point) (z : Session) (d : Day) → n ≡ noPoint → z ≡ chainedTo (t .session) (record { reach = ToDv trusted; dv = p; terminal = n })
+      → d ≡ later (t .today) (p .first) → withToday (withSession t z) d ≡ dvTaken t p trusted
   unfolding dvTaken
-  dv-is p root n z d e f g = rw (f, e, g)
+  dv-is p trusted n z d e f g = rw (f, e, g)
 
   pub terminal-is : (p : Point) (r : Reach) (z : Session) (d : Day) → r ≡ extended (t .session .context .chain .reach)
       → z ≡ chainedTo (t .session) (record { reach = r; dv = t .session .context .chain .dv; terminal = p }) → d ≡ todayAfter (t .session .context .chain .dv) p (t .today)

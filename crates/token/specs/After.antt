@@ -62,13 +62,13 @@ linkTaken t p = withToday (withSession (withPoints t (linked (t .points) p)) (ch
 
 -- "a DV replaces the chain"
 unfoldable pub dvTaken : Token → Point → Rights → Token
-dvTaken t p root = withToday (withSession t (chainedTo (t .session) (record { reach = ToDv root; dv = p; terminal = noPoint }))) (later (t .today) (p .first))
+dvTaken t p trusted = withToday (withSession t (chainedTo (t .session) (record { reach = ToDv trusted; dv = p; terminal = noPoint }))) (later (t .today) (p .first))
 
 -- a chain's reach with a terminal under its DV; no plan comes here without a DV
 abbrev pub extended : Reach → Reach
 extended Empty = Empty
-extended (ToDv root) = ToTerminal root
-extended (ToTerminal root) = ToTerminal root
+extended (ToDv trusted) = ToTerminal trusted
+extended (ToTerminal trusted) = ToTerminal trusted
 
 -- "a terminal its terminal"
 unfoldable pub terminalTaken : Token → Point → Token
@@ -98,7 +98,7 @@ afterOf t RunClosed p k = runClosed t
 afterOf t (TrialLost left) p k = trialLost t left
 afterOf t (Selected i) p k = issuerSelected t i
 afterOf t LinkTaken p k = linkTaken t p
-afterOf t (DvTaken root) p k = dvTaken t p root
+afterOf t (DvTaken trusted) p k = dvTaken t p trusted
 afterOf t TerminalTaken p k = terminalTaken t p
 afterOf t IsAnnounced p k = announced t k
 afterOf t IsChallenged p k = staged t Challenged

@@ -36,8 +36,8 @@ fn extended(reach: Reach) -> Reach
 {
     match reach {
         Reach::Empty => Reach::Empty,
-        Reach::ToDv(root) => Reach::ToTerminal(root),
-        Reach::ToTerminal(root) => Reach::ToTerminal(root),
+        Reach::ToDv(trusted) => Reach::ToTerminal(trusted),
+        Reach::ToTerminal(trusted) => Reach::ToTerminal(trusted),
     }
 }
 
@@ -138,14 +138,14 @@ impl Token {
     }
 
     // A DV replaces the chain.
-    fn dv_taken(mut self, dv: Point, root: Rights) -> Self
-        ensures { λ r. ⌜ r ≡ dvTaken self dv root ⌝ }
+    fn dv_taken(mut self, dv: Point, trusted: Rights) -> Self
+        ensures { λ r. ⌜ r ≡ dvTaken self dv trusted ⌝ }
     {
         let z = self.session;
         let d = self.today;
         let none = Point::none();
         let chain = Chain {
-            reach: Reach::ToDv(root),
+            reach: Reach::ToDv(trusted),
             dv: dv,
             terminal: none,
         };
@@ -230,7 +230,7 @@ impl Token {
             Event::TrialLost(left) => self.trial_lost(left),
             Event::Selected(issuer) => self.issuer_selected(issuer),
             Event::LinkTaken => self.link_taken(point),
-            Event::DvTaken(root) => self.dv_taken(point, root),
+            Event::DvTaken(trusted) => self.dv_taken(point, trusted),
             Event::TerminalTaken => self.terminal_taken(point),
             Event::Announced => self.announced(key),
             Event::Challenged => self.staged(Stage::Challenged),

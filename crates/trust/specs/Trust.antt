@@ -9,12 +9,12 @@ use Rattle.points.specs.declared.Point.{Point}
 use Rattle.event.specs.declared.Issuer.{Issuer}
 use Rattle.event.specs.declared.Issuer.the-variants.{Newest, Previous, Dv}
 use Rattle.trust.specs.declared.Points.{Points}
-use Rattle.trust.specs.declared.Anchor.{Anchor}
-use Rattle.trust.specs.declared.Anchor.the-variants.{Is, Unknown}
+use Rattle.trust.specs.declared.Trusted.{Trusted}
+use Rattle.trust.specs.declared.Trusted.the-variants.{Is, Unknown}
 
 -- a good name, good dates, rights of 40 bits, role CVCA
-unfoldable pub anchorFits : Point → Bool
-anchorFits p = pointFits p && isCvca (roleOf (p .rights))
+unfoldable pub trustPointFits : Point → Bool
+trustPointFits p = pointFits p && isCvca (roleOf (p .rights))
 
 unfoldable pub onePoint : Point → Points
 onePoint newest = record { newest = newest; previous = noPoint; two = false }
@@ -24,21 +24,21 @@ twoPoints newest previous = record { newest = newest; previous = previous; two =
 
 -- each is good, and their names differ; what is not held is not judged
 unfoldable pub pointsFit : Points → Bool
-pointsFit h = anchorFits (h .newest) && (not (h .two) || (anchorFits (h .previous) && not (sameName (h .previous .name) (h .newest .name))))
+pointsFit h = trustPointFits (h .newest) && (not (h .two) || (trustPointFits (h .previous) && not (sameName (h .previous .name) (h .newest .name))))
 
 -- a trust point has this name
 unfoldable pub knows : Points → Name → Bool
 knows h n = sameName n (h .newest .name) || (h .two && sameName n (h .previous .name))
 
 -- the trust point of this name
-unfoldable pub found : Points → Name → Anchor
+unfoldable pub found : Points → Name → Trusted
 found h n = cond (sameName n (h .newest .name)) (Is Newest) (cond (h .two && sameName n (h .previous .name)) (Is Previous) Unknown)
 
 -- the certificate of an issuer, where the chain's DV is this one
-abbrev pub holderOf : Points → Issuer → Point → Point
-holderOf h Newest dv = h .newest
-holderOf h Previous dv = h .previous
-holderOf h Dv dv = dv
+abbrev pub issuerOf : Points → Issuer → Point → Point
+issuerOf h Newest dv = h .newest
+issuerOf h Previous dv = h .previous
+issuerOf h Dv dv = dv
 
 -- "a link becomes newest, newest becomes previous"
 unfoldable pub linked : Points → Point → Points

@@ -1,6 +1,6 @@
 // The trust points that a token holds: the newest, and perhaps a previous one.
 ghost use mathlib.Core.Path.{_≡_};
-ghost use Rattle.trust.specs.Trust.{anchorFits, onePoint, twoPoints, pointsFit, knows, found, holderOf, linked};
+ghost use Rattle.trust.specs.Trust.{trustPointFits, onePoint, twoPoints, pointsFit, knows, found, issuerOf, linked};
 use event::Issuer;
 use names::Name;
 use points::Point;
@@ -12,19 +12,19 @@ pub struct Points {
 }
 
 // A trust point of some name, or none.
-pub enum Anchor {
+pub enum Trusted {
     Is(Issuer),
     Unknown,
 }
 
 // Whether a trust point is within its limits.
-fn anchor_fits(p: Point) -> bool
-    ensures { λ r. ⌜ r ≡ anchorFits p ⌝ }
+fn trust_point_fits(p: Point) -> bool
+    ensures { λ r. ⌜ r ≡ trustPointFits p ⌝ }
 {
     let rights = p.rights;
     let fits = p.fits();
-    let anchor = rights.role().is_cvca();
-    fits & anchor
+    let is_cvca = rights.role().is_cvca();
+    fits & is_cvca
 }
 
 impl Points {
@@ -57,8 +57,8 @@ impl Points {
         let previous = self.previous;
         let a = newest.name;
         let b = previous.name;
-        let first = anchor_fits(newest);
-        let second = anchor_fits(previous);
+        let first = trust_point_fits(newest);
+        let second = trust_point_fits(previous);
         let same = b.same(a);
         first & (!self.two | (second & !same))
     }
@@ -77,7 +77,7 @@ impl Points {
     }
 
     // The trust point of this name.
-    pub fn find(self, name: Name) -> Anchor
+    pub fn find(self, name: Name) -> Trusted
         ensures { λ r. ⌜ r ≡ found self name ⌝ }
     {
         let newest = self.newest;
@@ -85,20 +85,20 @@ impl Points {
         let a = newest.name;
         let b = previous.name;
         if name.same(a) {
-            return Anchor::Is(Issuer::Newest);
+            return Trusted::Is(Issuer::Newest);
         }
         let second = name.same(b);
         if self.two & second {
-            return Anchor::Is(Issuer::Previous);
+            return Trusted::Is(Issuer::Previous);
         }
-        Anchor::Unknown
+        Trusted::Unknown
     }
 
     // The certificate of an issuer, where the chain's DV is this one.
-    pub fn holder(self, issuer: Issuer, dv: Point) -> Point
-        ensures { λ r. ⌜ r ≡ holderOf self issuer dv ⌝ }
+    pub fn issuer(self, which: Issuer, dv: Point) -> Point
+        ensures { λ r. ⌜ r ≡ issuerOf self which dv ⌝ }
     {
-        match issuer {
+        match which {
             Issuer::Newest => self.newest,
             Issuer::Previous => self.previous,
             Issuer::Dv => dv,

@@ -1,18 +1,17 @@
 // The words of a line that asks what a token wants or which group it would let be read, and those of its answer.
+use super::labels::label;
 use super::send::note_of;
 use super::stated::number;
 use super::stated::string;
-use super::words::label;
-use super::words::spaces;
-use super::words::word;
 use course::Job;
 use course::Note;
 use digits::number::Radix;
 use reply::ROOM;
-use strings::same;
-use text::front;
+use status::Word;
+use words::count;
+use words::word;
 
-// What a command is asked about with, and its length; not good where a word is not as it should be.
+// The note of the command asked about, and the command's length; not good where a word is not as it should be.
 pub struct Question {
     pub good: bool,
     pub note: Note,
@@ -30,7 +29,7 @@ pub fn read_question(line: &[u8], command: &mut [u8]) -> Question {
     let a = string(word(line, 2), &mut *command);
     let note = x.note;
     Question {
-        good: x.good & a.good & (spaces(line) == 2),
+        good: x.good & a.good & (count(line, b' ') == 2),
         note: note,
         len: a.len,
     }
@@ -48,14 +47,15 @@ pub fn wanted(out: &mut [u8], job: Job) -> usize {
 pub fn read_group(line: &[u8]) -> Group {
     let x = number(word(line, 1), Radix::Ten);
     Group {
-        good: x.good & (1 <= x.n) & (x.n <= 21) & (spaces(line) == 1),
+        good: x.good & (1 <= x.n) & (x.n <= 21) & (count(line, b' ') == 1),
         number: (x.n % 256) as u8,
     }
 }
 
-// Whether a reply is 9000.
+// Whether a reply is 9000 and nothing else.
 pub fn done(reply: [u8; ROOM], len: usize) -> bool {
-    same(front(&reply, len), b"\x90\x00")
+    let word = Word::Done.number();
+    (len == 2) & (reply[0] == (word / 256) as u8) & (reply[1] == (word % 256) as u8)
 }
 
 pub fn yes_or_no(out: &mut [u8], yes: bool) -> usize {

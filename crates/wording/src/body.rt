@@ -1,9 +1,8 @@
 // The body of a certificate.
 use super::BYTES;
+use super::expected::refused;
 use super::labelled;
 use super::stated::string;
-use super::words::spaces;
-use super::words::word;
 use certificate::Body;
 use certificate::Place;
 use certificate::read_body;
@@ -12,6 +11,8 @@ use points::Point;
 use status::Intake;
 use text::front;
 use text::put;
+use words::count;
+use words::word;
 
 // No extension stands at the start of a body.
 fn place(out: &mut [u8], at: usize, label: &[u8], p: Place) -> usize {
@@ -49,14 +50,14 @@ fn fields(out: &mut [u8], b: Body) -> usize {
 pub fn body(line: &[u8], out: &mut [u8]) -> usize {
     let mut work = [0u8; BYTES];
     let a = string(word(line, 1), &mut work);
-    if !(a.good & (spaces(line) == 1)) {
+    if !(a.good & (count(line, b' ') == 1)) {
         return 0;
     }
     let r = read_body(front(&work, a.len));
     let answer = r.answer;
     let read = r.body;
     if let Intake::Unfit = answer {
-        return put(&mut *out, 0, b"6A80");
+        return refused(&mut *out, answer);
     }
     fields(&mut *out, read)
 }

@@ -6,16 +6,16 @@ use super::stated::fixed;
 use super::stated::name;
 use super::stated::number;
 use super::stated::string;
-use super::words::spaces;
-use super::words::word;
 use days::Day;
 use digits::number::Radix;
 use points::Point;
 use rights::Rights;
 use text::front;
+use words::count;
+use words::word;
 
 // A trust point that five words state; not good where a word is not one.
-struct Trusted {
+struct StatedPoint {
     good: bool,
     point: Point,
 }
@@ -30,7 +30,7 @@ pub struct Personalisation {
 }
 
 // The trust point that the words from k on state.
-fn point_at(line: &[u8], k: usize) -> Trusted
+fn point_at(line: &[u8], k: usize) -> StatedPoint
     requires { ⌜ k ≤ 7 ⌝ }
 {
     let mut work = [0u8; BYTES];
@@ -42,7 +42,7 @@ fn point_at(line: &[u8], k: usize) -> Trusted
     let to = day(last.n);
     let called = string(word(line, k), &mut work);
     let own = name(front(&work, called.len));
-    Trusted {
+    StatedPoint {
         good: called.good & rights.good & first.good & last.good & key.good,
         point: Point {
             name: own,
@@ -55,13 +55,14 @@ fn point_at(line: &[u8], k: usize) -> Trusted
 }
 
 pub fn read_personalisation(line: &[u8]) -> Personalisation {
-    let n = spaces(line);
+    let n = count(line, b' ');
     let date = fixed(word(line, 1), Radix::Ten, 6);
     let today = day(date.n);
     let a = point_at(line, 2);
     let b = point_at(line, 7);
     let newest = a.point;
     let previous = b.point;
+    // Six spaces with one point, eleven with two.
     Personalisation {
         good: date.good & a.good & ((n == 6) | (b.good & (n == 11))),
         two: n == 11,

@@ -1,9 +1,8 @@
-// The words of a line that sends a command with its crypto result, and the reply's.
+// The words of a line that sends a command with its crypto result, and the reply's: 0 send, 1 NOTE, 2 COMMAND, 3 VERDICT, 4 KEY,
+// 5 FIRST, 6 SECOND, 7 JOB.
 use super::stated::Strung;
 use super::stated::number;
 use super::stated::string;
-use super::words::spaces;
-use super::words::word;
 use course::Job;
 use course::Note;
 use digits::hex::put_hex;
@@ -13,6 +12,8 @@ use run::Step;
 use settle::Verdict;
 use strings::same;
 use text::front;
+use words::count;
+use words::word;
 
 // How a command came; not good where a word does not say so.
 pub(crate) struct Noted {
@@ -25,10 +26,10 @@ struct Judged {
     verdict: Verdict,
 }
 
-// The job that a line names, or the one that the token wants.
+// The job that a line names, or that it leaves it out: then it is the one that the token wants.
 pub struct Named {
     pub good: bool,
-    pub wanted: bool,
+    pub left_out: bool,
     pub job: Job,
 }
 
@@ -113,15 +114,15 @@ fn job_at(line: &[u8], n: usize) -> Named {
     let x = number(word(line, 7), Radix::Ten);
     Named {
         good: (x.good & (x.n <= 9)) | (n < 7),
-        wanted: n < 7,
+        left_out: n < 7,
         job: job_of(x.n),
     }
 }
 
 impl Named {
     // The job that the result is for.
-    pub fn settled(self, wanted: Job) -> Job {
-        if self.wanted {
+    pub fn job_or(self, wanted: Job) -> Job {
+        if self.left_out {
             return wanted;
         }
         let job = self.job;
@@ -130,7 +131,7 @@ impl Named {
 }
 
 pub fn read_sent(line: &[u8], command: &mut [u8], first: &mut [u8], second: &mut [u8]) -> Sent {
-    let n = spaces(line);
+    let n = count(line, b' ');
     let note = note_of(word(line, 1));
     let verdict = verdict_of(line, n);
     let job = job_at(line, n);
@@ -150,7 +151,7 @@ pub fn read_sent(line: &[u8], command: &mut [u8], first: &mut [u8], second: &mut
     }
 }
 
-// As much of the buffer as was written.
+// The reply in hex, - if it is empty.
 pub fn replied(out: &mut [u8], reply: [u8; ROOM], len: usize) -> usize {
     put_hex(&mut *out, 0, front(&reply, len))
 }

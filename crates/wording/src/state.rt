@@ -1,6 +1,6 @@
 // What a token keeps over a reset, and what it loses: its session.
 use super::labelled;
-use super::words::label;
+use super::labels::label;
 use days::Day;
 use event::Issuer;
 use rights::Granted;

@@ -6,7 +6,9 @@ use super::show::heading;
 use super::show::number;
 use super::show::write;
 use status::Intake;
-use strings::clip;
+use text::front;
+use text::past;
+use text::put;
 
 pub fn section() {
     heading(b"bad input");
@@ -50,13 +52,8 @@ fn truncated(s: &[u8]) {
 // A body with the first byte of another after it, and with the whole of it.
 fn followed(s: &[u8]) {
     let mut two = [0u8; 400];
-    let n = clip(s.len(), 200);
-    let mut i = 0;
-    while i < n {
-        two[i] = s[i];
-        two[n + i] = s[i];
-        i += 1;
-    }
-    body(b"one byte more", &two[..n + 1]);
-    body(b"two bodies", &two[..n + n]);
+    let n = put(&mut two, 0, s);
+    let m = put(&mut two, n, s);
+    body(b"one byte more", front(&two, past(n, m)));
+    body(b"two bodies", front(&two, m));
 }

@@ -1,5 +1,4 @@
 // The reply buffer: nothing in a short one; else the reply, and after it what stood there.
-ghost use Prim.Native.Nat.{_≤_};
 use super::show::heading;
 use super::show::number;
 use super::show::write;
@@ -12,27 +11,7 @@ use rights::Rights;
 use settle::Answered;
 use settle::Verdict;
 use token::state::Token;
-
-// One, if a byte is still AA.
-fn still(b: u8) -> usize
-    ensures { λ r. ⌜ r ≤ 1 ⌝ }
-{
-    if b == 0xAA {
-        return 1;
-    }
-    0
-}
-
-// How many bytes are still AA.
-fn kept(s: &[u8]) -> usize {
-    let mut n = 0;
-    let mut i = 0;
-    while i < s.len() {
-        n += still(s[i]);
-        i += 1;
-    }
-    n
-}
+use words::count;
 
 // The CAN chosen, into a buffer of AA.
 fn chosen(t: Token, out: &mut [u8]) {
@@ -47,7 +26,7 @@ fn chosen(t: Token, out: &mut [u8]) {
     write(b": ");
     number(r.len);
     write(b" bytes, ");
-    number(kept(out));
+    number(count(out, 0xAA));
     write(b" kept\n");
 }
 

@@ -1,6 +1,6 @@
 -- `lines::reset` meets its contract. Assumes nothing.
 use borrow.Author.Needs.{needs}
-use Rattle.laid.proofs.Moving.{stays-there, reset-moves}
+use Rattle.lines.proofs.Turning.{not-reset, reset-so}
 use Rattle.lines.proofs.reset.Statement.{statement}
 use Rattle.lines.proofs.reset.Tie as tie
 
@@ -9,9 +9,9 @@ reset-spec =
     tie.close
     (tie.spec
     (λ c κs. search needs)
-    (λ c. search stays-there)
+    (λ c. search not-reset)
     (λ c κs. search needs)
     (λ c. search needs)
     (λ c κs. search needs)
     (λ c. search needs)
-    (λ c. search reset-moves depth 6))
+    (λ c. search reset-so depth 6))

@@ -1,6 +1,7 @@
 -- `lines::personalise::personalise` meets its contract. Assumes nothing.
 use borrow.Author.Needs.{needs}
-use Rattle.laid.proofs.Moving.{stays-there, laid-moves}
+use Rattle.laid.proofs.Moving.{made-as}
+use Rattle.lines.proofs.Turning.{unmade-there}
 use Rattle.lines.proofs.personalise.personalise.Statement.{statement}
 use Rattle.lines.proofs.personalise.personalise.Tie as tie
 
@@ -9,12 +10,12 @@ personalise-spec =
     tie.close
     (tie.spec
     (λ c κs. search needs)
-    (λ c. search stays-there)
+    (λ c. search unmade-there)
     (λ c κs. search needs)
     (λ c κs. search needs)
     (λ c. search needs)
-    (λ c. search laid-moves depth 6)
+    (λ c. search made-as depth 6)
     (λ c κs. search needs)
     (λ c κs. search needs)
     (λ c. search needs)
-    (λ c. search laid-moves depth 6))
+    (λ c. search made-as depth 6))

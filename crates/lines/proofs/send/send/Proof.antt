@@ -1,6 +1,6 @@
 -- `lines::send::send` meets its contract. Assumes nothing.
 use borrow.Author.Needs.{needs}
-use Rattle.laid.proofs.Moving.{stays-there}
+use Rattle.lines.proofs.Turning.{unstepped-there}
 use Rattle.lines.proofs.send.send.Statement.{statement}
 use Rattle.lines.proofs.send.send.Tie as tie
 
@@ -12,7 +12,7 @@ send-spec =
     (λ c. search needs)
     (λ c. search needs)
     (λ c κs. search needs)
-    (λ c. search stays-there)
+    (λ c. search unstepped-there)
     (λ c. search needs)
     (λ c. search needs)
     (λ c. search needs)

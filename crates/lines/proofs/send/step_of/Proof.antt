@@ -1,6 +1,6 @@
 -- `lines::send::step_of` meets its contract. Assumes nothing.
 use borrow.Author.Needs.{needs}
-use Rattle.laid.proofs.Moving.{step-moves}
+use Rattle.laid.proofs.Moving.{stepped-as}
 use Rattle.lines.proofs.send.step_of.Statement.{statement}
 use Rattle.lines.proofs.send.step_of.Tie as tie
 
@@ -17,4 +17,4 @@ step-of-spec =
     (λ c κs. search needs)
     (λ c κs. search needs)
     (λ c. search needs)
-    (λ c. search step-moves depth 6))
+    (λ c. search stepped-as depth 6))

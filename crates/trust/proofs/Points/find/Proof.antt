@@ -1,6 +1,6 @@
 -- `trust::Points::find` meets its contract. Assumes nothing.
 use borrow.Author.Needs.{needs}
-use Rattle.trust.proofs.Anchors.{anchors}
+use Rattle.trust.proofs.TrustPoints.{trust-points}
 use Rattle.trust.proofs.Points.find.Statement.{statement}
 use Rattle.trust.proofs.Points.find.Tie as tie
 
@@ -9,7 +9,7 @@ find-spec =
     tie.close
     (tie.spec
     (λ c κs. search needs)
-    (λ c. search anchors depth 7)
+    (λ c. search trust-points depth 7)
     (λ c κs. search needs)
-    (λ c. search anchors depth 7)
-    (λ c. search anchors depth 7))
+    (λ c. search trust-points depth 7)
+    (λ c. search trust-points depth 7))

@@ -1,6 +1,6 @@
 -- `trust::Points::fit` meets its contract. Assumes nothing.
 use borrow.Author.Needs.{needs}
-use Rattle.trust.proofs.Anchors.{anchors}
+use Rattle.trust.proofs.TrustPoints.{trust-points}
 use Rattle.trust.proofs.Points.fit.Statement.{statement}
 use Rattle.trust.proofs.Points.fit.Tie as tie
 
@@ -11,4 +11,4 @@ fit-spec =
     (λ c κs. search needs)
     (λ c κs. search needs)
     (λ c κs. search needs)
-    (λ c. search anchors depth 7))
+    (λ c. search trust-points depth 7))

@@ -1,6 +1,6 @@
 -- `trust::Points::knows` meets its contract. Assumes nothing.
 use borrow.Author.Needs.{needs}
-use Rattle.trust.proofs.Anchors.{anchors}
+use Rattle.trust.proofs.TrustPoints.{trust-points}
 use Rattle.trust.proofs.Points.knows.Statement.{statement}
 use Rattle.trust.proofs.Points.knows.Tie as tie
 
@@ -10,4 +10,4 @@ knows-spec =
     (tie.spec
     (λ c κs. search needs)
     (λ c κs. search needs)
-    (λ c. search anchors depth 7))
+    (λ c. search trust-points depth 7))

@@ -1,6 +1,6 @@
 -- `trust::Points::one` meets its contract. Assumes nothing.
 use borrow.Author.Needs.{needs}
-use Rattle.trust.proofs.Anchors.{anchors}
+use Rattle.trust.proofs.TrustPoints.{trust-points}
 use Rattle.trust.proofs.Points.one.Statement.{statement}
 use Rattle.trust.proofs.Points.one.Tie as tie
 
@@ -9,4 +9,4 @@ one-spec =
     tie.close
     (tie.spec
     (λ c κs. search needs)
-    (λ c. search anchors))
+    (λ c. search trust-points))
