@@ -7,9 +7,10 @@ use native.Mathlib.Nat.{mod-lt, div-add-mod', div-lt-iff-lt-mul, pow-suc, pow-ze
 use native.Mathlib.Omega.{arith}
 use lib.Dec.{leb, ltb, eqb}
 use lib.ListN.{length}
-use borrow.Author.Tests.{le-leb, lt-leb, lt-ltb, le-ltb, ltb-true, ltb-false, eq-eqb, ne-eqb}
-use Rattle.laws.proofs.Bools.{and-l, and-r, and-no, both}
+use borrow.Author.Tests.{le-leb, lt-ltb, le-ltb, ltb-true, ltb-false, eq-eqb, ne-eqb}
+use Rattle.laws.proofs.Bools.{and-l, and-r, both}
 use Rattle.strings.specs.Bytes.{among, eqbs}
+use Rattle.strings.proofs.Strings.{among-in, among-over}
 use Rattle.digits.specs.declared.number.Radix.{Radix}
 use Rattle.digits.specs.declared.number.Radix.the-variants.{Ten, Sixteen}
 use Rattle.digits.specs.declared.number.Number.the-variants.{Is}
@@ -21,12 +22,6 @@ use Rattle.digits.proofs.Numbers.{most}
 use Rattle.digits.proofs.Pairs.{pairs-long, hex-some}
 
 -- ---- one digit
-
-among-in : (a e c : ℕ) → a ≤ c → c ≤ e → among a e c ≡ true
-among-in a e c h k = rw (le-leb a c h, le-leb c e k)
-
-among-over : (a e c : ℕ) → e < c → among a e c ≡ false
-among-over a e c h = and-no (leb a c) (leb c e) (lt-leb c e h)
 
 worth-glyph : (d : ℕ) → d < 16 → worth (glyph d) ≡ d
 unfolding worth

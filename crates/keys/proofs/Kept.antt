@@ -4,16 +4,14 @@ use native.Mathlib.Omega.{arith}
 use mathlib.Core.Path.{_≡_}
 use mathlib.Core.Bool.{true}
 use mathlib.Core.List.{List}
-use borrow.Author.Tests.{leb-true, le-leb}
-use lib.Dec.{leb}
+use borrow.Author.Tests.{le-leb}
 use lib.ListN.{length, replicate}
-use Rattle.laws.proofs.Bools.{and-l, and-r}
 use Rattle.keys.specs.Keys.{isKey, keyOf, keyBytes, keyFits, keyStands}
-use Rattle.strings.proofs.Strings.{kept}
+use Rattle.strings.proofs.Strings.{among-low, among-high, kept}
 
 key-size : (c : List ℕ) → isKey c ≡ true → (1 ≤ length c) × (length c ≤ 66)
 unfolding isKey
-key-size c h = (leb-true 1 (length c) (and-l (leb 1 (length c)) (leb (length c) 66) h), leb-true (length c) 66 (and-r (leb 1 (length c)) (leb (length c) 66) h))
+key-size c h = (among-low 1 66 (length c) h, among-high 1 66 (length c) h)
 
 pub key-bytes : (c : List ℕ) → isKey c ≡ true → keyBytes (keyOf c) ≡ c
 unfolding keyOf

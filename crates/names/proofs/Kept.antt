@@ -4,18 +4,18 @@ use native.Mathlib.Omega.{arith}
 use mathlib.Core.Path.{_≡_, refl, sym, _∙_}
 use mathlib.Core.Bool.{Bool, true, false}
 use mathlib.Core.List.{List}
-use borrow.Author.Tests.{leb-true, le-leb}
+use borrow.Author.Tests.{le-leb}
 use lib.Dec.{leb}
 use lib.ListN.{length, replicate}
-use Rattle.laws.proofs.Bools.{and-l, and-r}
+use Rattle.laws.proofs.Bools.{and-l}
 use Rattle.strings.specs.Bytes.{among}
 use Rattle.names.specs.Names.{isName, nameOf, nameBytes, nameFits, sameName}
 use Rattle.names.specs.declared.Name.{Name}
-use Rattle.strings.proofs.Strings.{eqbs-true, eqbs-refl, kept}
+use Rattle.strings.proofs.Strings.{eqbs-true, eqbs-refl, among-high, kept}
 
 name-room : (c : List ℕ) → isName c ≡ true → length c ≤ 16
 unfolding isName
-name-room c h = leb-true (length c) 16 (and-r (leb 8 (length c)) (leb (length c) 16) (and-l (among 8 16 (length c)) _ h))
+name-room c h = among-high 8 16 (length c) (and-l (among 8 16 (length c)) _ h)
 
 pub name-bytes : (c : List ℕ) → isName c ≡ true → nameBytes (nameOf c) ≡ c
 unfolding nameOf
