@@ -5,43 +5,21 @@ use native.Mathlib.Nat.{add-assoc, zero-add}
 use native.Mathlib.Omega.{arith}
 use mathlib.Core.Path.{_≡_, refl, sym, _∙_}
 use mathlib.Core.List.{List}
-use mathlib.Core.Bool.{Bool, true, false, cond, _&&_}
-use lib.Dec.{leb, eqb}
+use mathlib.Core.Bool.{Bool, true, false, cond}
+use lib.Dec.{leb}
 use lib.ListN.{length, drop, take}
-use borrow.Author.Tests.{leb-false, lt-leb, eqb-true, eq-eqb, ne-eqb}
-use Rattle.objects.specs.Objects.{headerOf, part, objects, object, within, plus, closed, thenRest, allowance, objectsAt, objectsIn, foundIn, tagged, alike}
+use borrow.Author.Tests.{leb-false, lt-leb, eq-eqb, ne-eqb}
+use Rattle.objects.specs.Objects.{part, objects, object, within, plus, closed, thenRest, allowance, objectsAt, objectsIn, foundIn}
 use Rattle.objects.specs.Chain.{answered, counted, taken, takenBy}
-use Rattle.objects.specs.declared.Head.{Head}
-use Rattle.objects.specs.declared.Head.the-variants.{Header, NoHeader}
 use Rattle.objects.specs.declared.Count.{Count}
 use Rattle.objects.specs.declared.Count.the-variants.{Objects, Refused}
 use Rattle.objects.specs.declared.Found.{Found}
 use Rattle.objects.specs.declared.Found.the-variants.{Content, Missing}
 use Rattle.laws.proofs.Lists.{from}
-use Rattle.objects.proofs.Sizes.{found-sizes}
+use Rattle.objects.proofs.Sizes.{found-header, found-sizes}
 use Rattle.objects.proofs.Fuel.{objects-are}
 
--- ---- an object that was found is one with that header
-
-pub found-header : (t : ℕ) (w : Bool) (s : List ℕ) (a e : ℕ) → foundIn t w s ≡ Content a e → headerOf s ≡ Header t w a e
-unfolding foundIn
-found-header t w s a e p = go (headerOf s) p
-  where
-    kind : (b v : Bool) (x y : ℕ) → cond (alike b v) (Content x y) Missing ≡ Content a e → (b ≡ v) × (x ≡ a) × (y ≡ e)
-    kind true true x y q = (refl, cc, cc)
-    kind false false x y q = (refl, cc, cc)
-    kind true false x y q = absurd (let z : _≡_ {A = ℕ} 0 1 = cc in omega arith)
-    kind false true x y q = absurd (let z : _≡_ {A = ℕ} 0 1 = cc in omega arith)
-
-    tag : (u x y : ℕ) (b f : Bool) → eqb u t ≡ f → cond (f && alike b w) (Content x y) Missing ≡ Content a e → Header u b x y ≡ Header t w a e
-    tag u x y b true i q = let k = kind b w x y q in let j = eqb-true u t i in cc
-    tag u x y b false i q = absurd (let z : _≡_ {A = ℕ} 0 1 = cc in omega arith)
-
-    go : (h : Head) → tagged t w h ≡ Content a e → h ≡ Header t w a e
-    go NoHeader q = absurd (let z : _≡_ {A = ℕ} 0 1 = cc in omega arith)
-    go (Header u b x y) q = tag u x y b (eqb u t) refl q
-
--- ---- the count of a list that starts with such an object
+-- ---- the count of a list that starts with an object that was found
 
 module _ (d : ℕ) (s : List ℕ) (t a e : ℕ) where
   some : (w : Bool) → foundIn t w s ≡ Content a e → length s ≡ 0 → ⊥

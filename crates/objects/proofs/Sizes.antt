@@ -8,7 +8,7 @@ use lib.Dec.{leb, ltb, eqb}
 use native.Mathlib.Omega.{arith}
 use lib.ListN.{length, drop, length-drop}
 use lib.Seq.{length-take-le}
-use borrow.Author.Tests.{leb-true}
+use borrow.Author.Tests.{leb-true, eqb-true}
 use Rattle.laws.proofs.Bools.{of-both}
 use Rattle.objects.specs.Objects.{tagOf, tag2, lenOf, len1, len2, headerOf, labelled, placed, objectBy, closed, part, foundIn, tagged, alike}
 use Rattle.objects.specs.declared.Label.{Label}
@@ -19,7 +19,6 @@ use Rattle.objects.specs.declared.Head.{Head}
 use Rattle.objects.specs.declared.Head.the-variants.{Header, NoHeader}
 use Rattle.objects.specs.declared.Count.{Count}
 use Rattle.objects.specs.declared.Count.the-variants.{Objects, Refused}
-use Rattle.objects.specs.declared.Found.{Found}
 use Rattle.objects.specs.declared.Found.the-variants.{Content, Missing}
 use Rattle.objects.specs.declared.One.{One}
 use Rattle.objects.specs.declared.One.the-variants.{Object, NoObject}
@@ -120,23 +119,26 @@ object-in inner d s = go (headerOf s) (header-in s)
 pub part-length : (a e : ℕ) (s : List ℕ) → a ≤ e → e ≤ length s → length (part a e s) ≡ e - a
 part-length a e s p q = length-take-le (e - a) (drop a s) (simp length-drop (omega arith))
 
--- ---- a field that was found
+-- ---- an object that was found is one with that header
 
-pub data FoundIn (n : ℕ) : Found → Type 0 where
-  missing : FoundIn n Missing
-  content-of : {a e : ℕ} → 1 < a → a ≤ e → e ≤ n → FoundIn n (Content a e)
-
-found-in : (t : ℕ) (w : Bool) (s : List ℕ) → FoundIn (length s) (foundIn t w s)
+pub found-header : (t : ℕ) (w : Bool) (s : List ℕ) (a e : ℕ) → foundIn t w s ≡ Content a e → headerOf s ≡ Header t w a e
 unfolding foundIn
-found-in t w s = go (headerOf s) (header-in s)
+found-header t w s a e p = go (headerOf s) p
   where
-    go : (h : Head) → HeadIn (length s) h → FoundIn (length s) (tagged t w h)
-    go NoHeader h = missing
-    go (Header u b a e) (header-of p q r) = of-both (FoundIn (length s)) (eqb u t && alike b w) (content-of p q r) missing
+    kind : (b v : Bool) (x y : ℕ) → cond (alike b v) (Content x y) Missing ≡ Content a e → (b ≡ v) × (x ≡ a) × (y ≡ e)
+    kind true true x y q = (refl, cc, cc)
+    kind false false x y q = (refl, cc, cc)
+    kind true false x y q = absurd (let z : _≡_ {A = ℕ} 0 1 = cc in omega arith)
+    kind false true x y q = absurd (let z : _≡_ {A = ℕ} 0 1 = cc in omega arith)
 
-content-sizes : {n a e : ℕ} → FoundIn n (Content a e) → (1 < a) × (a ≤ e) × (e ≤ n)
-content-sizes (content-of p q r) = (p, q, r)
+    tag : (u x y : ℕ) (b f : Bool) → eqb u t ≡ f → cond (f && alike b w) (Content x y) Missing ≡ Content a e → Header u b x y ≡ Header t w a e
+    tag u x y b true i q = let k = kind b w x y q in let j = eqb-true u t i in cc
+    tag u x y b false i q = absurd (let z : _≡_ {A = ℕ} 0 1 = cc in omega arith)
+
+    go : (h : Head) → tagged t w h ≡ Content a e → h ≡ Header t w a e
+    go NoHeader q = absurd (let z : _≡_ {A = ℕ} 0 1 = cc in omega arith)
+    go (Header u b x y) q = tag u x y b (eqb u t) refl q
 
 -- what a caller of `find` knows of an answer
 pub found-sizes : (t : ℕ) (w : Bool) (s : List ℕ) (a e : ℕ) → foundIn t w s ≡ Content a e → (1 < a) × (a ≤ e) × (e ≤ length s)
-found-sizes t w s a e p = content-sizes (subst (FoundIn (length s)) p (found-in t w s))
+found-sizes t w s a e p = head-sizes (subst (HeadIn (length s)) (found-header t w s a e p) (header-in s))
