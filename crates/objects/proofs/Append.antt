@@ -9,7 +9,7 @@ use mathlib.Core.Bool.{Bool, true, false, cond}
 use lib.Dec.{leb, ltb, eqb}
 use lib.ListN.{length, drop, length-drop, length-append}
 use lib.Seq.{take-append-le, drop-append-le}
-use borrow.Author.Tests.{leb-true, le-leb, ne-eqb}
+use borrow.Author.Tests.{leb-true, le-leb}
 use Rattle.objects.specs.Objects.{nestBit, tagOf, tag2, lenOf, len1, len2, placed, labelled, headerOf, part, objectBy, plus, thenRest, objects, object}
 use Rattle.objects.specs.declared.Label.{Label}
 use Rattle.objects.specs.declared.Label.the-variants.{Tag, NoTag}
@@ -22,7 +22,7 @@ use Rattle.objects.specs.declared.Count.the-variants.{Objects, Refused}
 use Rattle.objects.specs.declared.One.{One}
 use Rattle.objects.specs.declared.One.the-variants.{Object, NoObject}
 use Rattle.objects.proofs.Sizes.{TagIn, tag-in, tag-sizes, HeadIn, head-sizes, header-in, OneIn, one-sizes, object-in}
-use Rattle.objects.proofs.Fuel.{objects-are}
+use Rattle.objects.proofs.Fuel.{objects-none, objects-some}
 
 module _ (u : List ℕ) where
   -- ---- a header
@@ -110,10 +110,6 @@ plus-plus : (m n : ℕ) (c : Count) → plus m (plus n c) ≡ plus (m + n) c
 plus-plus m n Refused = refl
 plus-plus m n (Objects k) = ap Objects (sym (add-assoc m n k))
 
--- the objects of a list that is not empty
-list-some : (d x : ℕ) (s : List ℕ) → objects d (x ∷ s) ≡ thenRest (objects d) (x ∷ s) (object d (x ∷ s))
-list-some d x s = rw (objects-are d (x ∷ s), ne-eqb (length (x ∷ s)) 0 (λ z. omega arith))
-
 -- one object more in front
 module _ (d x : ℕ) (s t : List ℕ)
     (shorter : (c : List ℕ) (j : ℕ) → length c ≤ length s → objects d c ≡ Objects j → objects d (c ++ t) ≡ plus j (objects d t)) where
@@ -123,7 +119,7 @@ module _ (d x : ℕ) (s t : List ℕ)
   rest-append f m n (Objects j) q o p l r =
       let z : m + j ≡ n = cc in
       let g = length-drop f (x ∷ s) in
-      rw (list-some d x (s ++ t), object-append t d (x ∷ s) f m o, drop-append-le f (x ∷ s) t l, shorter (drop f (x ∷ s)) j (omega arith) q, sym z)
+      rw (objects-some d (x ∷ (s ++ t)) (λ y. omega arith), object-append t d (x ∷ s) f m o, drop-append-le f (x ∷ s) t l, shorter (drop f (x ∷ s)) j (omega arith) q, sym z)
       (plus-plus m j (objects d t))
 
   one-append : (n : ℕ) (o : One) → object d (x ∷ s) ≡ o → OneIn (length (x ∷ s)) o → thenRest (objects d) (x ∷ s) o ≡ Objects n
@@ -135,8 +131,8 @@ module _ (d x : ℕ) (s t : List ℕ)
 pub append-by : (k d : ℕ) (s t : List ℕ) (n : ℕ) → length s < k → objects d s ≡ Objects n → objects d (s ++ t) ≡ plus n (objects d t)
 append-by zero d s t n h e = absurd (omega arith)
 append-by (suc k) d [] t n h e =
-    let q : Objects 0 ≡ Objects n = sym (objects-are d []) ∙ e in
+    let q : Objects 0 ≡ Objects n = sym (objects-none d [] refl) ∙ e in
     let z : 0 ≡ n = cc in
     rw (sym z) (sym (plus-zero (objects d t)))
 append-by (suc k) d (x ∷ s) t n h e =
-    one-append d x s t (λ c j l q. append-by k d c t j (omega arith) q) n (object d (x ∷ s)) refl (object-whole d (x ∷ s)) (sym (list-some d x s) ∙ e)
+    one-append d x s t (λ c j l q. append-by k d c t j (omega arith) q) n (object d (x ∷ s)) refl (object-whole d (x ∷ s)) (sym (objects-some d (x ∷ s) (λ y. omega arith)) ∙ e)

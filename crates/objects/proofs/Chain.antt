@@ -8,7 +8,7 @@ use mathlib.Core.List.{List}
 use mathlib.Core.Bool.{Bool, true, false, cond}
 use lib.Dec.{leb}
 use lib.ListN.{length, drop, take}
-use borrow.Author.Tests.{leb-false, lt-leb, eq-eqb, ne-eqb}
+use borrow.Author.Tests.{leb-false, lt-leb, ne-eqb}
 use Rattle.objects.specs.Objects.{part, objects, object, within, plus, closed, thenRest, allowance, objectsAt, objectsIn, foundIn}
 use Rattle.objects.specs.Chain.{answered, counted, taken, takenBy}
 use Rattle.objects.specs.declared.Count.{Count}
@@ -17,7 +17,7 @@ use Rattle.objects.specs.declared.Found.{Found}
 use Rattle.objects.specs.declared.Found.the-variants.{Content, Missing}
 use Rattle.laws.proofs.Lists.{from}
 use Rattle.objects.proofs.Sizes.{found-header, found-sizes}
-use Rattle.objects.proofs.Fuel.{objects-are}
+use Rattle.objects.proofs.Fuel.{objects-some}
 
 -- ---- the count of a list that starts with an object that was found
 
@@ -27,11 +27,11 @@ module _ (d : ℕ) (s : List ℕ) (t a e : ℕ) where
 
   pub flat-counts : foundIn t false s ≡ Content a e → objects d s ≡ plus 1 (objects d (drop e s))
   unfolding object
-  flat-counts p = rw (objects-are d s, ne-eqb (length s) 0 (some false p), found-header t false s a e p)
+  flat-counts p = rw (objects-some d s (some false p), found-header t false s a e p)
 
   pub nest-counts : 0 < d → foundIn t true s ≡ Content a e → objects d s ≡ thenRest (objects d) s (closed e (objects (d - 1) (part a e s)))
   unfolding object
-  nest-counts h p = rw (objects-are d s, ne-eqb (length s) 0 (some true p), found-header t true s a e p, ne-eqb d 0 (λ z. omega arith))
+  nest-counts h p = rw (objects-some d s (some true p), found-header t true s a e p, ne-eqb d 0 (λ z. omega arith))
 
 module _ {R : Type 0} (fail : R) where
   -- nothing is answered by a reader that has given up
@@ -143,8 +143,3 @@ module _ {R : Type 0} (fail : R) (P : R → Type 0) (never : P fail) where
   pub answered-all : (c : Count) (k : ℕ → R) → ((n : ℕ) → P (k n)) → P (answered fail c k)
   answered-all Refused k h = never
   answered-all (Objects n) k h = h n
-
--- ---- a list with nothing in it
-
-pub none-counts : (d : ℕ) (s : List ℕ) → length s ≡ 0 → objects d s ≡ Objects 0
-none-counts d s h = rw (objects-are d s, eq-eqb (length s) 0 h)

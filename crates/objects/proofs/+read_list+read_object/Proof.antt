@@ -8,7 +8,6 @@ use mathlib.Core.List.{List}
 use lib.Dec.{leb·zero}
 use lib.ListN.{length, drop}
 use borrow.Author.Needs.{needs}
-use borrow.Author.Tests.{eq-eqb}
 use borrow.Fn.Kinds.{In, Out}
 use borrow.Fn.PlainCycle.{Measures, is, falls, and}
 use Rattle.objects.specs.Objects.{headerOf, object, objects, closed, plus, within, withinOne}
@@ -16,7 +15,7 @@ use Rattle.objects.specs.declared.Head.the-variants.{Header}
 use Rattle.objects.specs.declared.One.the-variants.{Object}
 use Rattle.laws.proofs.Lists.{from}
 use Rattle.objects.proofs.Sizes.{HeadIn, OneIn, head-sizes, header-in, one-sizes, object-in}
-use Rattle.objects.proofs.Fuel.{objects-are}
+use Rattle.objects.proofs.Fuel.{objects-none}
 use Rattle.objects.proofs.Counts.{none-left, kept, kept-count, list-refused, list-is, flat-is, deep-is, nest-is}
 use Rattle.objects.proofs.read_list.Reads as list
 use Rattle.objects.proofs.read_list.Kinds as list-kinds
@@ -139,7 +138,7 @@ unfolding object
 +read-list+read-object-spec =
     close μ-list μ-object
     (λ t. list-lts.spec (object-below t, object-reads.Post, list-below t, list.Post) (list-at t) list.Post
-    (λ c. rw (objects-are _ _) (simp (eq-eqb _ _ (c .if1 .taken), leb·zero (c .before .before .args .left))))
+    (λ c. rw (objects-none _ _ (c .if1 .taken)) (simp (leb·zero (c .before .before .args .left))))
     (λ c κs. (omega arith, tt))
     (λ c. search needs)
     (λ c. search needs)
