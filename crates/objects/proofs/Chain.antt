@@ -8,7 +8,7 @@ use mathlib.Core.List.{List}
 use mathlib.Core.Bool.{Bool, true, false, cond}
 use lib.Dec.{leb}
 use lib.ListN.{length, drop, take}
-use borrow.Author.Tests.{leb-false, lt-leb, ne-eqb}
+use borrow.Author.Tests.{ne-eqb}
 use Rattle.objects.specs.Objects.{part, objects, object, within, plus, closed, thenRest, allowance, objectsAt, objectsIn, foundIn}
 use Rattle.objects.specs.Chain.{answered, counted, taken, takenBy}
 use Rattle.objects.specs.declared.Count.{Count}
@@ -18,6 +18,7 @@ use Rattle.objects.specs.declared.Found.the-variants.{Content, Missing}
 use Rattle.laws.proofs.Lists.{from}
 use Rattle.objects.proofs.Sizes.{found-header, found-sizes}
 use Rattle.objects.proofs.Fuel.{objects-some}
+use Rattle.objects.proofs.Counts.{plus-over, over-left}
 
 -- ---- the count of a list that starts with an object that was found
 
@@ -53,8 +54,7 @@ module _ {R : Type 0} (fail : R) where
   -- too many used already
   pub counted-over : (used : ℕ) (c : Count) (k : ℕ → R) → allowance < used → counted fail used c k ≡ fail
   unfolding counted
-  counted-over used Refused k h = refl
-  counted-over used (Objects n) k h = let g : allowance < used + n = omega arith in simp (lt-leb _ _ g)
+  counted-over used c k h = rw (plus-over allowance used c h)
 
   -- a reading starts with nothing used
   pub answered-counted : (s : List ℕ) (k : ℕ → R) → answered fail (objectsIn s) k ≡ counted fail 0 (objectsAt 1 s) k
@@ -116,13 +116,9 @@ module _ {R : Type 0} (fail : R) (used d : ℕ) (s : List ℕ) (t a e : ℕ) whe
       over : (m : ℕ) → left < m → counted fail used (plus (m + 1) (objects d (drop e s))) g ≡ fail
       over m i = counted-plus fail used (m + 1) (objects d (drop e s)) g ∙ counted-over fail (used + (m + 1)) (objects d (drop e s)) g (omega arith)
 
-      test : (m : ℕ) (b : Bool) → leb m left ≡ b → cond b (Objects m) Refused ≡ Refused → left < m
-      test m true i j = absurd (let z : _≡_ {A = ℕ} 0 1 = cc in omega arith)
-      test m false i j = leb-false m left i
-
       go : (c : Count) → within left c ≡ Refused → counted fail used (thenRest (objects d) s (closed e c)) g ≡ fail
       go Refused j = refl
-      go (Objects m) j = over m (test m (leb m left) refl j)
+      go (Objects m) j = over m (over-left left m j)
 
 -- ---- what holds of every answer of a chain
 
