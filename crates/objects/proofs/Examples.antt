@@ -16,8 +16,13 @@ pub p10-read : headerOf (0x5F ∷ 0x37 ∷ 0x81 ∷ 0x80 ∷ replicate 128 0) �
 unfolding headerOf tagOf tag2 lenOf len1
 p10-read = refl
 
+-- an empty list at depth 8 is fine
+pub empty-at-8 : objectsIn (0x30 ∷ 12 ∷ 0x30 ∷ 10 ∷ 0x30 ∷ 8 ∷ 0x30 ∷ 6 ∷ 0x30 ∷ 4 ∷ 0x30 ∷ 2 ∷ 0x30 ∷ 0 ∷ []) ≡ Objects 7
+unfolding objectsIn objects objectsOf headerOf tagOf tag2 lenOf
+empty-at-8 = refl
+
 -- an object in seven nests is at depth 8, and an eighth nest is refused, empty though it is
-pub depth-8 : objectsIn (0x30 ∷ 12 ∷ 0x30 ∷ 10 ∷ 0x30 ∷ 8 ∷ 0x30 ∷ 6 ∷ 0x30 ∷ 4 ∷ 0x30 ∷ 2 ∷ 0x30 ∷ 0 ∷ []) ≡ Objects 7
+pub depth-8 : objectsIn (0x30 ∷ 14 ∷ 0x30 ∷ 12 ∷ 0x30 ∷ 10 ∷ 0x30 ∷ 8 ∷ 0x30 ∷ 6 ∷ 0x30 ∷ 4 ∷ 0x30 ∷ 2 ∷ 0x04 ∷ 0 ∷ []) ≡ Objects 8
 unfolding objectsIn objects objectsOf headerOf tagOf tag2 lenOf
 depth-8 = refl
 
