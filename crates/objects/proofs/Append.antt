@@ -10,7 +10,7 @@ use lib.Dec.{leb, ltb, eqb}
 use lib.ListN.{length, drop, length-drop, length-append}
 use lib.Seq.{take-append-le, drop-append-le}
 use borrow.Author.Tests.{leb-true, le-leb}
-use Rattle.objects.specs.Objects.{nestBit, tagOf, tag2, lenOf, len1, len2, placed, labelled, headerOf, part, objectBy, plus, thenRest, objects, object}
+use Rattle.objects.specs.Objects.{nestBit, tagOf, secondTagByte, lenOf, lengthAfter81, lengthAfter82, placed, labelled, headerOf, part, objectBy, plus, thenRest, objects, object}
 use Rattle.objects.specs.declared.Label.{Label}
 use Rattle.objects.specs.declared.Label.the-variants.{Tag, NoTag}
 use Rattle.objects.specs.declared.Extent.{Extent}
@@ -28,22 +28,22 @@ module _ (u : List ℕ) where
   -- ---- a header
 
   tag-append : (s : List ℕ) (t n : ℕ) (b : Bool) → tagOf s ≡ Tag t b n → tagOf (s ++ u) ≡ tagOf s
-  unfolding tagOf tag2
+  unfolding tagOf secondTagByte
   tag-append [] t n b e = absurd (let z : _≡_ {A = ℕ} 0 1 = cc in omega arith)
-  tag-append (a ∷ []) t n b e = go (Tag a (nestBit a) 1) (eqb (a % 32) 31) e
+  tag-append (a ∷ []) t n b e = go (Tag a (nestBit a) 1) (eqb (a % 0x20) 0x1F) e
     where
-      go : (x : Label) (f : Bool) → cond f NoTag x ≡ Tag t b n → cond f (tag2 a u) x ≡ cond f NoTag x
+      go : (x : Label) (f : Bool) → cond f NoTag x ≡ Tag t b n → cond f (secondTagByte a u) x ≡ cond f NoTag x
       go x true q = absurd (let z : _≡_ {A = ℕ} 0 1 = cc in omega arith)
       go x false q = refl
   tag-append (a ∷ c ∷ s) t n b e = refl
 
   len-append : (s : List ℕ) (l m : ℕ) → lenOf s ≡ Len l m → lenOf (s ++ u) ≡ lenOf s
-  unfolding lenOf len1 len2
+  unfolding lenOf lengthAfter81 lengthAfter82
   len-append [] l m e = absurd (let z : _≡_ {A = ℕ} 0 1 = cc in omega arith)
   len-append (a ∷ []) l m e = go (Len a 1) (ltb a 128) (eqb a 0x81) (eqb a 0x82) e
     where
       go : (x : Extent) (f g h : Bool) → cond f x (cond g NoLen (cond h NoLen NoLen)) ≡ Len l m
-          → cond f x (cond g (len1 u) (cond h (len2 u) NoLen)) ≡ cond f x (cond g NoLen (cond h NoLen NoLen))
+          → cond f x (cond g (lengthAfter81 u) (cond h (lengthAfter82 u) NoLen)) ≡ cond f x (cond g NoLen (cond h NoLen NoLen))
       go x true g h q = refl
       go x false true h q = absurd (let z : _≡_ {A = ℕ} 0 1 = cc in omega arith)
       go x false false true q = absurd (let z : _≡_ {A = ℕ} 0 1 = cc in omega arith)
@@ -51,7 +51,7 @@ module _ (u : List ℕ) where
   len-append (a ∷ b ∷ []) l m e = go (Len a 1) (cond (leb 128 b) (Len b 2) NoLen) (ltb a 128) (eqb a 0x81) (eqb a 0x82) e
     where
       go : (x y : Extent) (f g h : Bool) → cond f x (cond g y (cond h NoLen NoLen)) ≡ Len l m
-          → cond f x (cond g y (cond h (len2 (b ∷ u)) NoLen)) ≡ cond f x (cond g y (cond h NoLen NoLen))
+          → cond f x (cond g y (cond h (lengthAfter82 (b ∷ u)) NoLen)) ≡ cond f x (cond g y (cond h NoLen NoLen))
       go x y true g h q = refl
       go x y false true h q = refl
       go x y false false true q = absurd (let z : _≡_ {A = ℕ} 0 1 = cc in omega arith)

@@ -10,7 +10,7 @@ use lib.ListN.{length, drop, length-drop}
 use lib.Seq.{length-take-le}
 use borrow.Author.Tests.{leb-true, eqb-true}
 use Rattle.laws.proofs.Bools.{of-both}
-use Rattle.objects.specs.Objects.{tagOf, tag2, lenOf, len1, len2, headerOf, labelled, placed, objectBy, closed, part, foundIn, tagged, alike}
+use Rattle.objects.specs.Objects.{tagOf, secondTagByte, lenOf, lengthAfter81, lengthAfter82, headerOf, labelled, placed, objectBy, closed, part, foundIn, tagged, alike}
 use Rattle.objects.specs.declared.Label.{Label}
 use Rattle.objects.specs.declared.Label.the-variants.{Tag, NoTag}
 use Rattle.objects.specs.declared.Extent.{Extent}
@@ -38,33 +38,33 @@ tag-sizes (tag-of k p q) = (p, q)
 pub len-sizes : {n l k : ℕ} → LenIn n (Len l k) → (0 < k) × (k ≤ n)
 len-sizes (len-of k p q) = (p, q)
 
-tag2-in : (a : ℕ) (s : List ℕ) → TagIn (suc (length s)) (tag2 a s)
-unfolding tag2
-tag2-in a [] = no-tag
-tag2-in a (b ∷ s) = of-both (TagIn _) (leb 31 b && leb b 127) (tag-of 2 (omega arith) (omega arith)) no-tag
+second-in : (a : ℕ) (s : List ℕ) → TagIn (suc (length s)) (secondTagByte a s)
+unfolding secondTagByte
+second-in a [] = no-tag
+second-in a (b ∷ s) = of-both (TagIn _) (leb 0x1F b && leb b 0x7F) (tag-of 2 (omega arith) (omega arith)) no-tag
 
 pub tag-in : (s : List ℕ) → TagIn (length s) (tagOf s)
 unfolding tagOf
 tag-in [] = no-tag
-tag-in (a ∷ s) = of-both (TagIn _) (eqb (a % 32) 31) (tag2-in a s) (tag-of 1 (omega arith) (omega arith))
+tag-in (a ∷ s) = of-both (TagIn _) (eqb (a % 0x20) 0x1F) (second-in a s) (tag-of 1 (omega arith) (omega arith))
 
-len1-in : (s : List ℕ) → LenIn (suc (length s)) (len1 s)
-unfolding len1
-len1-in [] = no-len
-len1-in (b ∷ s) = of-both (LenIn _) (leb 128 b) (len-of 2 (omega arith) (omega arith)) no-len
+after-81-in : (s : List ℕ) → LenIn (suc (length s)) (lengthAfter81 s)
+unfolding lengthAfter81
+after-81-in [] = no-len
+after-81-in (b ∷ s) = of-both (LenIn _) (leb 128 b) (len-of 2 (omega arith) (omega arith)) no-len
 
-len2-in : (s : List ℕ) → LenIn (suc (length s)) (len2 s)
-unfolding len2
-len2-in [] = no-len
-len2-in (b ∷ []) = no-len
-len2-in (b ∷ c ∷ s) = of-both (LenIn _) (leb 256 (b * 256 + c)) (len-of 3 (omega arith) (omega arith)) no-len
+after-82-in : (s : List ℕ) → LenIn (suc (length s)) (lengthAfter82 s)
+unfolding lengthAfter82
+after-82-in [] = no-len
+after-82-in (b ∷ []) = no-len
+after-82-in (b ∷ c ∷ s) = of-both (LenIn _) (leb 256 (b * 256 + c)) (len-of 3 (omega arith) (omega arith)) no-len
 
 pub len-in : (s : List ℕ) → LenIn (length s) (lenOf s)
 unfolding lenOf
 len-in [] = no-len
 len-in (a ∷ s) =
     of-both (LenIn _) (ltb a 128) (len-of 1 (omega arith) (omega arith))
-    (of-both (LenIn _) (eqb a 129) (len1-in s) (of-both (LenIn _) (eqb a 130) (len2-in s) no-len))
+    (of-both (LenIn _) (eqb a 0x81) (after-81-in s) (of-both (LenIn _) (eqb a 0x82) (after-82-in s) no-len))
 
 -- a header of two bytes or more, and a content that ends within n
 pub data HeadIn (n : ℕ) : Head → Type 0 where

@@ -67,7 +67,7 @@ module _ (t : ℕ) where
   abbrev count : L list-lts.After-end → ℕ
   count c = c .end .given .0 .1 .0
 
-  first : (c : L list-lts.After-end) → (object (in-list c .args .depth) (src c) ≡ Object (end c) (count c)) × (count c ≤ in-list c .args .left)
+  first : (c : L list-lts.After-end) → (object (in-list c .args .below) (src c) ≡ Object (end c) (count c)) × (count c ≤ in-list c .args .left)
   first c = kept _ _ _ _ (sym (c .before .before .read-object .ensures) ∙ c .end .given .1)
 
   sizes : (c : L list-lts.After-end) → (0 < count c) × (0 < end c) × (end c ≤ length (src c))
@@ -79,11 +79,11 @@ module _ (t : ℕ) where
   before-rest c = c .before .before .before
 
   rest : (c : L list-lts.After-read-list) → (let o = before-rest c in
-      within (in-list o .args .left - count o) (objects (in-list o .args .depth) (drop (end o) (src o))) ≡ c .read-list .result)
+      within (in-list o .args .left - count o) (objects (in-list o .args .below) (drop (end o) (src o))) ≡ c .read-list .result)
   rest c = let o = before-rest c in rw (← from (src o) (end o)) (sym (c .read-list .ensures))
 
   whole : (c : L list-lts.After-read-list) → (let o = before-rest c in
-      within (in-list o .args .left) (objects (in-list o .args .depth) (src o)) ≡ plus (count o) (c .read-list .result))
+      within (in-list o .args .left) (objects (in-list o .args .below) (src o)) ≡ plus (count o) (c .read-list .result))
   whole c =
       let o = before-rest c in
       list-is _ _ _ _ _ (o .before .before .before .if1 .left) (first o .0) (first o .1) ∙ ap (plus (count o)) (rest c)
@@ -119,7 +119,7 @@ module _ (t : ℕ) where
   before-content c = c .before .before .before .before .before
 
   nest : (c : O object-lts.After-read-list) → (let o = before-content c in
-      withinOne (in-object o .args .left) (object (in-object o .args .depth) (bytes o)) ≡ closed (stop o) (c .read-list .result))
+      withinOne (in-object o .args .left) (object (in-object o .args .below) (bytes o)) ≡ closed (stop o) (c .read-list .result))
   nest c =
       let o = before-content c in
       let some : 0 < in-object o .args .left = omega arith in
