@@ -9,7 +9,7 @@ use Rattle.objects.specs.Chain.{taken}
 use Rattle.names.specs.Names.{isName, nameOf}
 use Rattle.keys.specs.Keys.{isKey, keyOf}
 use Rattle.rights.specs.Rights.{isRights, granted}
-use Rattle.command.specs.Form.{formOf, afterHeader, bodyOf, shortOf, afterShort}
+use Rattle.command.specs.Form.{formOf, afterHeader, afterFour, dataThen, afterShort}
 use Rattle.command.specs.Kind.{kindOf}
 use Rattle.command.specs.Shape.{shapeOf, headedOf}
 use Rattle.command.specs.declared.kind.Kind.the-variants.{SelectIssuer, ChangePin as KindPin}
@@ -119,5 +119,5 @@ pub commands :
     (askedOf (0x00 ∷ 0x22 ∷ 0x81 ∷ 0xB6 ∷ 0x0D ∷ named) ≡ asking SelectIssuer false (selecting (nameOf name)))
     × (askedOf (0x00 ∷ 0x2C ∷ 0x02 ∷ 0x03 ∷ 0x05 ∷ 0x31 ∷ 0x32 ∷ 0x33 ∷ 0x34 ∷ 0x35 ∷ []) ≡ asking KindPin false bad)
     × (askedOf (0x00 ∷ 0xFF ∷ 0x00 ∷ 0x00 ∷ []) ≡ refusing Instruction)
-unfolding askedOf dataOf selectOf pinOf reading lastly taken isName objectsIn objects objectsOf foundIn headerOf tagOf secondTagByte lenOf shapeOf formOf afterHeader bodyOf shortOf afterShort headedOf kindOf
+unfolding askedOf dataOf selectOf pinOf reading lastly taken isName objectsIn objects objectsOf foundIn headerOf tagOf secondTagByte lenOf shapeOf formOf afterHeader afterFour dataThen afterShort headedOf kindOf
 commands = (refl, refl, refl)
