@@ -25,7 +25,7 @@ use Rattle.objects.proofs.Fuel.{objects-none}
 use Rattle.objects.proofs.Chain.{rest, answered-counted, found-start, found-end, counted-no, counted-over, flat-counts, taken-is, not-taken, not-fit, flat-taken, nest-taken, nest-refused}
 use Rattle.strings.specs.Bytes.{eqbs, among}
 use Rattle.names.specs.Names.{isName, nameOf}
-use Rattle.days.specs.Days.{isDay, dayOf, dated, before}
+use Rattle.days.specs.Days.{isDate, dayOf, dated, before}
 use Rattle.rights.specs.Rights.{isRights, rightsOf, granted}
 use Rattle.certificate.specs.Body.{isLast, isPublicKey, keyObjects, isSignature, unread, read, noPlace, ended, placeOf, bodyOf, wholeOf, signedOf, signedWhole, isSigned, signsBy, versionThen, issuerThen, keyThen, ownThen, rightsThen, firstThen, lastThen, extThen}
 use Rattle.names.specs.declared.Name.{Name}
@@ -153,17 +153,17 @@ module _ (stop used : ℕ) (issuer : Name) (key : Place) (own : Name) (s : List 
   rights-off u q = u ∙ sym (not-fit unread used (deepest - 2) s 0x7F4C isRights _ true (objectsAt 2 s) a e (sym is ∙ p) (rights-fail (part a e s) (sym v ∙ q)))
 
 -- 5F25 and 5F24
-day-holds : (c : List ℕ) (d : Day) → dated c ≡ On d → (isDay c ≡ true) × (d ≡ record { 0 = dayOf c })
+day-holds : (c : List ℕ) (d : Day) → dated c ≡ On d → (isDate c ≡ true) × (d ≡ record { 0 = dayOf c })
 unfolding dated
-day-holds c d = go (isDay c)
+day-holds c d = go (isDate c)
   where
     go : (b : Bool) → cond b (On (record { 0 = dayOf c })) NoDay ≡ On d → (b ≡ true) × (d ≡ record { 0 = dayOf c })
     go true e = (refl, cc)
     go false e = absurd (let z : _≡_ {A = ℕ} 0 1 = cc in omega arith)
 
-day-fails : (c : List ℕ) → dated c ≡ NoDay → isDay c ≡ false
+day-fails : (c : List ℕ) → dated c ≡ NoDay → isDate c ≡ false
 unfolding dated
-day-fails c = go (isDay c)
+day-fails c = go (isDate c)
   where
     go : (b : Bool) → cond b (On (record { 0 = dayOf c })) NoDay ≡ NoDay → b ≡ false
     go true e = absurd (let z : _≡_ {A = ℕ} 0 1 = cc in omega arith)
@@ -176,11 +176,11 @@ module _ (stop used : ℕ) (issuer : Name) (key : Place) (own : Name) (rights : 
   unfolding firstThen
   first-on d q g =
       let k = day-holds (part a e s) d (sym v ∙ q) in
-      g ∙ rw (k .1) (sym (flat-taken unread used (deepest - 2) s 0x5F25 isDay _ a e (sym is ∙ p) (k .0)))
+      g ∙ rw (k .1) (sym (flat-taken unread used (deepest - 2) s 0x5F25 isDate _ a e (sym is ∙ p) (k .0)))
 
   pub first-off : x ≡ unread → w ≡ NoDay → x ≡ counted unread used (objectsAt 2 s) (firstThen stop issuer key own rights s)
   unfolding firstThen
-  first-off u q = u ∙ sym (not-fit unread used (deepest - 2) s 0x5F25 isDay _ false (objectsAt 2 s) a e (sym is ∙ p) (day-fails (part a e s) (sym v ∙ q)))
+  first-off u q = u ∙ sym (not-fit unread used (deepest - 2) s 0x5F25 isDate _ false (objectsAt 2 s) a e (sym is ∙ p) (day-fails (part a e s) (sym v ∙ q)))
 
 module _ (stop used : ℕ) (issuer : Name) (key : Place) (own : Name) (rights : Rights) (first : Day) (s : List ℕ) (f : Found) (is : f ≡ foundIn 0x5F24 false s) (a e : ℕ) (p : f ≡ Content a e)
     (w : Dated) (v : w ≡ dated (part a e s)) (x : Reading) where
