@@ -1,18 +1,18 @@
 -- Reading what was printed gives it back: bytes in hex, digits of a fixed number, decimals. Assumes nothing.
-use Prim.Native.Nat.{ℕ, zero, suc, _+_, _-_, _*_, _/_, _%_, _^_, _≤_, _<_}
-use mathlib.Core.Path.{_≡_, refl, sym, ap, _∙_}
+use Prim.Native.Nat.{ℕ, zero, suc, _+_, _*_, _/_, _%_, _^_, _≤_, _<_}
+use mathlib.Core.Path.{_≡_, refl}
 use mathlib.Core.Bool.{Bool, true, false, _&&_, _||_}
 use mathlib.Core.List.{List, [], _∷_, _++_}
 use native.Mathlib.Nat.{mod-lt, div-add-mod', div-lt-iff-lt-mul, pow-suc, pow-zero}
 use native.Mathlib.Omega.{arith}
 use lib.Dec.{leb, ltb, eqb}
 use lib.ListN.{length}
-use borrow.Author.Tests.{le-leb, lt-ltb, le-ltb, ltb-true, ltb-false, eq-eqb, ne-eqb}
+use borrow.Author.Tests.{le-leb, lt-ltb, ltb-true, ltb-false, eq-eqb, ne-eqb}
 use Rattle.laws.proofs.Bools.{and-l, and-r, both}
 use Rattle.strings.specs.Bytes.{among, eqbs}
 use Rattle.strings.proofs.Strings.{among-in, among-over}
 use Rattle.digits.specs.declared.number.Radix.{Radix}
-use Rattle.digits.specs.declared.number.Radix.the-variants.{Ten, Sixteen}
+use Rattle.digits.specs.declared.number.Radix.the-variants.{Ten}
 use Rattle.digits.specs.declared.number.Number.the-variants.{Is}
 use Rattle.digits.specs.declared.hex.Taken.the-variants.{Bytes}
 use Rattle.digits.specs.Digits.{baseOf, glyph, worth, isDigit, digits, places, decimal, allDigits, value, grown, following, numberOf}

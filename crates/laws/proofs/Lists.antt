@@ -73,9 +73,6 @@ module _ (l : List ℕ) (n k m : ℕ) (e : length l ≡ n) (h : m ≡ min k n) w
 -- ---- bytes copied to the start of an array
 
 module _ (s o : List ℕ) where
-  pub copied-none : o ≡ take 0 s ++ drop 0 o
-  copied-none = refl
-
   -- one byte more
   pub copied-one : (i : ℕ) → i < length s → i < length o → set (take i s ++ drop i o) i (getD s i 0) ≡ take (i + 1) s ++ drop (i + 1) o
   copied-one i h l =
