@@ -11,7 +11,7 @@ use Rattle.objects.specs.Chain.{taken, any}
 use Rattle.objects.proofs.Chain.{taken-all, answered-all}
 use Rattle.strings.specs.Bytes.{eqbs}
 use Rattle.names.specs.Names.{isName, nameOf, nameFits}
-use Rattle.days.specs.Days.{isDay, dayOf, dayFits, before}
+use Rattle.days.specs.Days.{isDate, dayOf, dayFits, before}
 use Rattle.rights.specs.Rights.{isRights, rightsOf, rightsFit}
 use Rattle.points.specs.Points.{pointFits}
 use Rattle.names.specs.declared.Name.{Name}
@@ -54,12 +54,12 @@ module _ (stop : ℕ) where
     unfolding lastThen
     last-good first f s n =
         taken-all unread ReadGood never 0x5F24 false (isLast first) s (λ c e. extThen stop issuer key own rights first (record { 0 = dayOf c }))
-        (λ a e h. ext-good first (record { 0 = dayOf (part a e s) }) f (day-good (part a e s) (and-l (isDay (part a e s)) _ h)) (and-r (isDay (part a e s)) _ h) (drop e s)) n
+        (λ a e h. ext-good first (record { 0 = dayOf (part a e s) }) f (day-good (part a e s) (and-l (isDate (part a e s)) _ h)) (and-r (isDate (part a e s)) _ h) (drop e s)) n
 
     first-good : (s : List ℕ) (n : ℕ) → ReadGood (firstThen stop issuer key own rights s n)
     unfolding firstThen
     first-good s n =
-        taken-all unread ReadGood never 0x5F25 false isDay s (λ c e. lastThen stop issuer key own rights (record { 0 = dayOf c }))
+        taken-all unread ReadGood never 0x5F25 false isDate s (λ c e. lastThen stop issuer key own rights (record { 0 = dayOf c }))
         (λ a e h. last-good (record { 0 = dayOf (part a e s) }) (day-good (part a e s) h) (drop e s)) n
 
   rights-then-good : (issuer : Name) (key : Place) (own : Name) → nameFits issuer ≡ true → nameFits own ≡ true → (s : List ℕ) (n : ℕ) → ReadGood (rightsThen stop issuer key own s n)

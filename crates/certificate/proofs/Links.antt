@@ -21,10 +21,11 @@ use Rattle.objects.specs.declared.Found.the-variants.{Content, Missing}
 use Rattle.laws.proofs.Lists.{from}
 use Rattle.objects.proofs.Sizes.{found-sizes, part-length}
 use Rattle.objects.proofs.Counts.{kept-objects}
-use Rattle.objects.proofs.Chain.{rest, none-counts, answered-counted, found-start, found-end, counted-no, counted-over, flat-counts, taken-is, not-taken, not-fit, flat-taken, nest-taken, nest-refused}
+use Rattle.objects.proofs.Fuel.{objects-none}
+use Rattle.objects.proofs.Chain.{rest, answered-counted, found-start, found-end, counted-no, counted-over, flat-counts, taken-is, not-taken, not-fit, flat-taken, nest-taken, nest-refused}
 use Rattle.strings.specs.Bytes.{eqbs, among}
 use Rattle.names.specs.Names.{isName, nameOf}
-use Rattle.days.specs.Days.{isDay, dayOf, dated, before}
+use Rattle.days.specs.Days.{isDate, dayOf, dated, before}
 use Rattle.rights.specs.Rights.{isRights, rightsOf, granted}
 use Rattle.certificate.specs.Body.{isLast, isPublicKey, keyObjects, isSignature, unread, read, noPlace, ended, placeOf, bodyOf, wholeOf, signedOf, signedWhole, isSigned, signsBy, versionThen, issuerThen, keyThen, ownThen, rightsThen, firstThen, lastThen, extThen}
 use Rattle.names.specs.declared.Name.{Name}
@@ -152,17 +153,17 @@ module _ (stop used : ℕ) (issuer : Name) (key : Place) (own : Name) (s : List 
   rights-off u q = u ∙ sym (not-fit unread used (deepest - 2) s 0x7F4C isRights _ true (objectsAt 2 s) a e (sym is ∙ p) (rights-fail (part a e s) (sym v ∙ q)))
 
 -- 5F25 and 5F24
-day-holds : (c : List ℕ) (d : Day) → dated c ≡ On d → (isDay c ≡ true) × (d ≡ record { 0 = dayOf c })
+day-holds : (c : List ℕ) (d : Day) → dated c ≡ On d → (isDate c ≡ true) × (d ≡ record { 0 = dayOf c })
 unfolding dated
-day-holds c d = go (isDay c)
+day-holds c d = go (isDate c)
   where
     go : (b : Bool) → cond b (On (record { 0 = dayOf c })) NoDay ≡ On d → (b ≡ true) × (d ≡ record { 0 = dayOf c })
     go true e = (refl, cc)
     go false e = absurd (let z : _≡_ {A = ℕ} 0 1 = cc in omega arith)
 
-day-fails : (c : List ℕ) → dated c ≡ NoDay → isDay c ≡ false
+day-fails : (c : List ℕ) → dated c ≡ NoDay → isDate c ≡ false
 unfolding dated
-day-fails c = go (isDay c)
+day-fails c = go (isDate c)
   where
     go : (b : Bool) → cond b (On (record { 0 = dayOf c })) NoDay ≡ NoDay → b ≡ false
     go true e = absurd (let z : _≡_ {A = ℕ} 0 1 = cc in omega arith)
@@ -175,11 +176,11 @@ module _ (stop used : ℕ) (issuer : Name) (key : Place) (own : Name) (rights : 
   unfolding firstThen
   first-on d q g =
       let k = day-holds (part a e s) d (sym v ∙ q) in
-      g ∙ rw (k .1) (sym (flat-taken unread used (deepest - 2) s 0x5F25 isDay _ a e (sym is ∙ p) (k .0)))
+      g ∙ rw (k .1) (sym (flat-taken unread used (deepest - 2) s 0x5F25 isDate _ a e (sym is ∙ p) (k .0)))
 
   pub first-off : x ≡ unread → w ≡ NoDay → x ≡ counted unread used (objectsAt 2 s) (firstThen stop issuer key own rights s)
   unfolding firstThen
-  first-off u q = u ∙ sym (not-fit unread used (deepest - 2) s 0x5F25 isDay _ false (objectsAt 2 s) a e (sym is ∙ p) (day-fails (part a e s) (sym v ∙ q)))
+  first-off u q = u ∙ sym (not-fit unread used (deepest - 2) s 0x5F25 isDate _ false (objectsAt 2 s) a e (sym is ∙ p) (day-fails (part a e s) (sym v ∙ q)))
 
 module _ (stop used : ℕ) (issuer : Name) (key : Place) (own : Name) (rights : Rights) (first : Day) (s : List ℕ) (f : Found) (is : f ≡ foundIn 0x5F24 false s) (a e : ℕ) (p : f ≡ Content a e)
     (w : Dated) (v : w ≡ dated (part a e s)) (x : Reading) where
@@ -216,7 +217,7 @@ module _ (stop used : ℕ) (issuer : Name) (key : Place) (own : Name) (rights : 
 
   pub ext-none : length s ≡ 0 → x ≡ counted unread used (Objects 0) (done noPlace) → x ≡ counted unread used (objectsAt 2 s) (extThen stop issuer key own rights first last s)
   unfolding extThen
-  ext-none h g = g ∙ rw (none-counts (deepest - 2) s h, eq-eqb (length s) 0 h)
+  ext-none h g = g ∙ rw (objects-none (deepest - 2) s h, eq-eqb (length s) 0 h)
 
   module _ (some : length s ≡ 0 → ⊥) (f : Found) (is : f ≡ foundIn 0x65 true s) where
     pub ext-missing : x ≡ unread → f ≡ Missing → x ≡ counted unread used (objectsAt 2 s) (extThen stop issuer key own rights first last s)
@@ -243,7 +244,7 @@ module _ (stop used : ℕ) (issuer : Name) (key : Place) (own : Name) (rights : 
             let k = kept-objects (allowance - used) (objectsAt 3 (part a e s)) n (sym v ∙ q) in
             let m : used + 1 + n ≡ used + (n + 1) = omega arith in
             let o : length (rest s e) ≡ 0 = rw (from s e) (simp length-drop (omega arith)) in
-            g ∙ rw (ne-eqb (length s) 0 some, nest-taken unread used (deepest - 2) s 0x65 any _ a e n (omega arith) (sym is ∙ p) refl (k .0), none-counts (deepest - 2) (rest s e) o, eq-eqb (length (rest s e)) 0 o, m)
+            g ∙ rw (ne-eqb (length s) 0 some, nest-taken unread used (deepest - 2) s 0x65 any _ a e n (omega arith) (sym is ∙ p) refl (k .0), objects-none (deepest - 2) (rest s e) o, eq-eqb (length (rest s e)) 0 o, m)
 
 -- ---- the whole
 
@@ -275,7 +276,7 @@ module _ (s : List ℕ) (f : Found) (is : f ≡ foundIn 0x7F4E true s) (x : Read
         go Refused q = sym (nest-refused unread 0 (deepest - 1) s 0x7F4E a e (allowance - 1) (wholeOf s) (omega arith) (sym is ∙ p) (omega arith) (rw q))
         go (Objects m) q =
             let k : 0 + (m + 1) + 0 ≡ 1 + m = omega arith in
-            rw (nest-taken unread 0 (deepest - 1) s 0x7F4E any (λ c e r. ended r (versionThen e c)) a e m (omega arith) (sym is ∙ p) refl q, none-counts (deepest - 1) (rest s e) o, eq-eqb (length (rest s e)) 0 o, k)
+            rw (nest-taken unread 0 (deepest - 1) s 0x7F4E any (λ c e r. ended r (versionThen e c)) a e m (omega arith) (sym is ∙ p) refl q, objects-none (deepest - 1) (rest s e) o, eq-eqb (length (rest s e)) 0 o, k)
 
 -- ---- the whole with its signature
 
@@ -314,7 +315,7 @@ signature-count r = go (foundIn 0x5F37 false r) refl
     go Missing p h = absurd (let z : _≡_ {A = ℕ} 0 1 = cc in omega arith)
     go (Content a z) p h =
         let l = eqb-true z (length r) (and-r (among 1 256 (z - a)) (eqb z (length r)) h) in
-        rw (flat-counts (deepest - 1) r 0x5F37 a z p, none-counts (deepest - 1) (drop z r) (simp length-drop (omega arith)))
+        rw (flat-counts (deepest - 1) r 0x5F37 a z p, objects-none (deepest - 1) (drop z r) (simp length-drop (omega arith)))
 
 module _ (s : List ℕ) (f : Found) (is : f ≡ foundIn 0x7F4E true s) (x : Reading) where
   pub signed-missing : x ≡ unread → f ≡ Missing → x ≡ signedOf s

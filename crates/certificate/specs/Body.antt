@@ -13,7 +13,7 @@ use Rattle.objects.specs.declared.Found.{Found}
 use Rattle.objects.specs.declared.Found.the-variants.{Content, Missing}
 use Rattle.strings.specs.Bytes.{eqbs, among}
 use Rattle.names.specs.Names.{isName, nameOf, noName}
-use Rattle.days.specs.Days.{isDay, dayOf, before}
+use Rattle.days.specs.Days.{isDate, dayOf, before}
 use Rattle.rights.specs.Rights.{isRights, rightsOf}
 use Rattle.points.specs.Points.{noPoint}
 use Rattle.names.specs.declared.Name.{Name}
@@ -65,7 +65,7 @@ isSignature c = among 1 longestSignature (length c)
 
 -- a day that is not before the first
 abbrev pub isLast : Day → List ℕ → Bool
-isLast first c = isDay c && not (before (record { 0 = dayOf c }) first)
+isLast first c = isDate c && not (before (record { 0 = dayOf c }) first)
 
 module _ (stop : ℕ) where
   -- 65 optional, well-formed, unjudged
@@ -81,7 +81,7 @@ module _ (stop : ℕ) where
 
   -- 5F25 first day
   unfoldable pub firstThen : Name → Place → Name → Rights → List ℕ → Pending
-  firstThen issuer key own rights s = taken unread 0x5F25 false isDay s (λ c e. lastThen issuer key own rights (record { 0 = dayOf c }))
+  firstThen issuer key own rights s = taken unread 0x5F25 false isDate s (λ c e. lastThen issuer key own rights (record { 0 = dayOf c }))
 
   -- 7F4C rights
   unfoldable pub rightsThen : Name → Place → Name → List ℕ → Pending

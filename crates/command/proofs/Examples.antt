@@ -4,7 +4,7 @@ use mathlib.Core.Bool.{true, false}
 use mathlib.Core.Path.{_≡_, refl}
 use mathlib.Core.List.{List, [], _∷_}
 use lib.ListN.{replicate}
-use Rattle.command.specs.Form.{commandLimit, formOf, afterHeader, bodyOf, extendedOf, shortOf, longOf, afterShort, afterLong}
+use Rattle.command.specs.Form.{commandLimit, formOf, afterHeader, afterFour, extendedOf, dataThen, afterShort, afterLong}
 use Rattle.command.specs.Kind.{kindOf}
 use Rattle.command.specs.Shape.{shapeOf, headedOf}
 use Rattle.command.specs.declared.kind.Kind.the-variants.{General, VerifyCertificate, Challenge, Read}
@@ -56,5 +56,5 @@ pub examples :
     × (shapeOf (verify (commandLimit - 7)) ≡ Command VerifyCertificate false 7 commandLimit)
     -- one more
     × (shapeOf (verify (commandLimit - 6)) ≡ Faulty FormFault)
-unfolding shapeOf formOf afterHeader bodyOf extendedOf shortOf longOf afterShort afterLong headedOf kindOf
+unfolding shapeOf formOf afterHeader afterFour extendedOf dataThen afterShort afterLong headedOf kindOf
 examples = (refl, refl, refl, refl, refl, refl, refl, refl, refl, refl, refl, refl, refl, refl, refl, refl, refl, refl, refl, refl)

@@ -10,7 +10,7 @@ use lib.ListN.{length, take, drop, getD, length-drop}
 use borrow.Author.Tests.{eq-eqb, ne-eqb, le-leb, lt-leb, le-ltb, lt-ltb, leb-true}
 use Rattle.laws.proofs.Lists.{from}
 use Rattle.laws.proofs.Bools.{of-both}
-use Rattle.command.specs.Form.{commandLimit, pairOf, formOf, afterHeader, bodyOf, shortOf, longOf, extendedOf, afterShort, afterLong}
+use Rattle.command.specs.Form.{commandLimit, pairOf, formOf, afterHeader, afterFour, dataThen, extendedOf, afterShort, afterLong}
 use Rattle.command.specs.declared.form.Form.{Form}
 use Rattle.command.specs.declared.form.Form.the-variants.{Of, Wrong}
 use Rattle.command.specs.declared.form.Le.{Le}
@@ -52,22 +52,15 @@ long-wrong lc (a ∷ []) h k = refl
 long-wrong lc (a ∷ b ∷ []) h k = absurd (k refl)
 long-wrong lc (a ∷ b ∷ c ∷ s) h k = refl
 
-module _ (lc : ℕ) (s : List ℕ) where
-  pub short-in : (r : Form) → lc ≤ length s → r ≡ afterShort lc (take (length s - lc) (drop lc s)) → r ≡ shortOf lc s
-  unfolding shortOf
-  short-in r h e = rw (le-leb _ _ h) (e ∙ ap (afterShort lc) (from s lc))
+-- the data, whatever follows it
+module _ (after : ℕ → List ℕ → Form) (lc : ℕ) (s : List ℕ) where
+  pub data-in : (r : Form) → lc ≤ length s → r ≡ after lc (take (length s - lc) (drop lc s)) → r ≡ dataThen after lc s
+  unfolding dataThen
+  data-in r h e = rw (le-leb _ _ h) (e ∙ ap (after lc) (from s lc))
 
-  pub short-out : length s < lc → Wrong ≡ shortOf lc s
-  unfolding shortOf
-  short-out h = rw (lt-leb _ _ h)
-
-  pub long-in : (r : Form) → lc ≤ length s → r ≡ afterLong lc (take (length s - lc) (drop lc s)) → r ≡ longOf lc s
-  unfolding longOf
-  long-in r h e = rw (le-leb _ _ h) (e ∙ ap (afterLong lc) (from s lc))
-
-  pub long-out : length s < lc → Wrong ≡ longOf lc s
-  unfolding longOf
-  long-out h = rw (lt-leb _ _ h)
+  pub data-out : length s < lc → Wrong ≡ dataThen after lc s
+  unfolding dataThen
+  data-out h = rw (lt-leb _ _ h)
 
 pub ext-short : (s : List ℕ) → length s < 2 → Wrong ≡ extendedOf s
 unfolding extendedOf
@@ -91,13 +84,13 @@ module _ (n : ℕ) where
   ext-zero (a ∷ b ∷ c ∷ s) h k e z = rw (eq-eqb (pairOf a b) 0 (sym e ∙ z))
 
   pub ext-long : (s : List ℕ) (r : Form) → 2 ≤ length s → (length s ≡ 2 → ⊥) → n ≡ pairOf (getD s 0 0) (getD s 1 0) → (n ≡ 0 → ⊥)
-      → r ≡ longOf n (take (length s - 2) (drop 2 s)) → r ≡ extendedOf s
+      → r ≡ dataThen afterLong n (take (length s - 2) (drop 2 s)) → r ≡ extendedOf s
   unfolding extendedOf
   ext-long [] r h k e z q = absurd (omega arith)
   ext-long (a ∷ []) r h k e z q = absurd (omega arith)
   ext-long (a ∷ b ∷ []) r h k e z q = absurd (k refl)
   ext-long (a ∷ b ∷ c ∷ s) r h k e z q =
-      rw (ne-eqb (pairOf a b) 0 (λ y. z (e ∙ y))) (q ∙ ap (longOf n) (from (a ∷ b ∷ c ∷ s) 2) ∙ ap (λ (m : ℕ). longOf m (c ∷ s)) e)
+      rw (ne-eqb (pairOf a b) 0 (λ y. z (e ∙ y))) (q ∙ ap (dataThen afterLong n) (from (a ∷ b ∷ c ∷ s) 2) ∙ ap (λ (m : ℕ). dataThen afterLong m (c ∷ s)) e)
 
 -- the whole form, over the number of bytes
 under : (s : List ℕ) → length s ≤ commandLimit → formOf s ≡ afterHeader s
@@ -116,7 +109,7 @@ form-few (a ∷ b ∷ []) h = rw (under (a ∷ b ∷ []) (omega arith))
 form-few (a ∷ b ∷ c ∷ []) h = rw (under (a ∷ b ∷ c ∷ []) (omega arith))
 form-few (a ∷ b ∷ c ∷ d ∷ s) h = absurd (omega arith)
 
-headed : (s : List ℕ) → 4 ≤ length s → afterHeader s ≡ bodyOf (drop 4 s)
+headed : (s : List ℕ) → 4 ≤ length s → afterHeader s ≡ afterFour (drop 4 s)
 unfolding afterHeader
 headed [] h = absurd (omega arith)
 headed (a ∷ []) h = absurd (omega arith)
@@ -125,15 +118,15 @@ headed (a ∷ b ∷ c ∷ []) h = absurd (omega arith)
 headed (a ∷ b ∷ c ∷ d ∷ s) h = refl
 
 pub form-head : (s : List ℕ) → length s ≡ 4 → Of 4 4 Absent ≡ formOf s
-unfolding bodyOf
+unfolding afterFour
 form-head s h = rw (under s (omega arith), headed s (omega arith)) (none (drop 4 s) (simp length-drop (omega arith)))
   where
-    none : (l : List ℕ) → length l ≡ 0 → Of 4 4 Absent ≡ bodyOf l
+    none : (l : List ℕ) → length l ≡ 0 → Of 4 4 Absent ≡ afterFour l
     none [] h = refl
     none (a ∷ l) h = absurd (omega arith)
 
 pub form-le : (x : ℕ) (s : List ℕ) → length s ≡ 5 → x ≡ getD s 4 0 → Of 4 4 (Number x) ≡ formOf s
-unfolding bodyOf
+unfolding afterFour
 form-le x [] h e = absurd (omega arith)
 form-le x (a ∷ []) h e = absurd (omega arith)
 form-le x (a ∷ b ∷ []) h e = absurd (omega arith)
@@ -142,25 +135,25 @@ form-le x (a ∷ b ∷ c ∷ d ∷ []) h e = absurd (omega arith)
 form-le x (a ∷ b ∷ c ∷ d ∷ n ∷ []) h e = rw (under (a ∷ b ∷ c ∷ d ∷ n ∷ []) (omega arith), headed (a ∷ b ∷ c ∷ d ∷ n ∷ []) (omega arith), e)
 form-le x (a ∷ b ∷ c ∷ d ∷ n ∷ m ∷ s) h e = absurd (omega arith)
 
-body-more : (s : List ℕ) → 1 < length s → bodyOf s ≡ cond (eqb (getD s 0 0) 0) (extendedOf (drop 1 s)) (shortOf (getD s 0 0) (drop 1 s))
-unfolding bodyOf
-body-more [] h = absurd (omega arith)
-body-more (n ∷ []) h = absurd (omega arith)
-body-more (n ∷ m ∷ s) h = refl
+four-more : (s : List ℕ) → 1 < length s → afterFour s ≡ cond (eqb (getD s 0 0) 0) (extendedOf (drop 1 s)) (dataThen afterShort (getD s 0 0) (drop 1 s))
+unfolding afterFour
+four-more [] h = absurd (omega arith)
+four-more (n ∷ []) h = absurd (omega arith)
+four-more (n ∷ m ∷ s) h = refl
 
-more : (s : List ℕ) → 5 < length s → length s ≤ commandLimit → formOf s ≡ cond (eqb (getD s 4 0) 0) (extendedOf (drop 5 s)) (shortOf (getD s 4 0) (drop 5 s))
+more : (s : List ℕ) → 5 < length s → length s ≤ commandLimit → formOf s ≡ cond (eqb (getD s 4 0) 0) (extendedOf (drop 5 s)) (dataThen afterShort (getD s 4 0) (drop 5 s))
 more s h k =
-    under s k ∙ headed s (omega arith) ∙ body-more (drop 4 s) (simp length-drop (omega arith))
+    under s k ∙ headed s (omega arith) ∙ four-more (drop 4 s) (simp length-drop (omega arith))
     ∙ rw (getD-drop, drop-drop)
 
 module _ (s : List ℕ) (r : Form) (h : 4 ≤ length s) (h4 : length s ≡ 4 → ⊥) (h5 : length s ≡ 5 → ⊥) (k : length s ≤ commandLimit) where
   pub form-extended : getD s 4 0 ≡ 0 → r ≡ extendedOf (take (length s - 5) (drop 5 s)) → r ≡ formOf s
   form-extended z e = rw (more s (omega arith) k, z) (e ∙ ap extendedOf (from s 5))
 
-  pub form-short : (getD s 4 0 ≡ 0 → ⊥) → r ≡ shortOf (getD s 4 0) (take (length s - 5) (drop 5 s)) → r ≡ formOf s
-  form-short z e = rw (more s (omega arith) k, ne-eqb (getD s 4 0) 0 z) (e ∙ ap (shortOf (getD s 4 0)) (from s 5))
+  pub form-short : (getD s 4 0 ≡ 0 → ⊥) → r ≡ dataThen afterShort (getD s 4 0) (take (length s - 5) (drop 5 s)) → r ≡ formOf s
+  form-short z e = rw (more s (omega arith) k, ne-eqb (getD s 4 0) 0 z) (e ∙ ap (dataThen afterShort (getD s 4 0)) (from s 5))
 
-pub ruleset forms = (short-none, short-le, short-wrong, long-none, long-le, long-wrong, short-in, short-out, long-in, long-out, ext-short, ext-le, ext-zero, ext-long, form-over, form-few, form-head, form-le, form-extended, form-short)
+pub ruleset forms = (short-none, short-le, short-wrong, long-none, long-le, long-wrong, data-in, data-out, ext-short, ext-le, ext-zero, ext-long, form-over, form-few, form-head, form-le, form-extended, form-short)
 
 -- ---- the data lies in the command, after the header
 
@@ -184,20 +177,14 @@ after-long-in n lc (a ∷ []) h = no-form
 after-long-in n lc (a ∷ b ∷ []) h = form-of 7 (7 + lc) (omega arith) (omega arith) h
 after-long-in n lc (a ∷ b ∷ c ∷ s) h = no-form
 
-short-length : (n lc : ℕ) (s : List ℕ) → 5 + length s ≤ n → FormIn n (shortOf lc s)
-unfolding shortOf
-short-length n lc s k = go (leb lc (length s)) refl
+-- data that starts at k
+data-form : (after : ℕ → List ℕ → Form) (n k lc : ℕ) (s : List ℕ) → ((t : List ℕ) → k + lc ≤ n → FormIn n (after lc t)) → k + length s ≤ n
+    → FormIn n (dataThen after lc s)
+unfolding dataThen
+data-form after n k lc s i h = go (leb lc (length s)) refl
   where
-    go : (b : Bool) → leb lc (length s) ≡ b → FormIn n (cond b (afterShort lc (drop lc s)) Wrong)
-    go true e = after-short-in _ lc _ (let h = leb-true lc (length s) e in omega arith)
-    go false e = no-form
-
-long-length : (n lc : ℕ) (s : List ℕ) → 7 + length s ≤ n → FormIn n (longOf lc s)
-unfolding longOf
-long-length n lc s k = go (leb lc (length s)) refl
-  where
-    go : (b : Bool) → leb lc (length s) ≡ b → FormIn n (cond b (afterLong lc (drop lc s)) Wrong)
-    go true e = after-long-in _ lc _ (let h = leb-true lc (length s) e in omega arith)
+    go : (b : Bool) → leb lc (length s) ≡ b → FormIn n (cond b (after lc (drop lc s)) Wrong)
+    go true e = i (drop lc s) (let l = leb-true lc (length s) e in omega arith)
     go false e = no-form
 
 extended-in : (n : ℕ) (s : List ℕ) → 5 + length s ≤ n → FormIn n (extendedOf s)
@@ -205,13 +192,13 @@ unfolding extendedOf
 extended-in n [] k = no-form
 extended-in n (a ∷ []) k = no-form
 extended-in n (a ∷ b ∷ []) k = form-of 4 4 (omega arith) (omega arith) (omega arith)
-extended-in n (a ∷ b ∷ c ∷ s) k = of-both (FormIn n) (eqb (pairOf a b) 0) no-form (long-length n (pairOf a b) (c ∷ s) (omega arith))
+extended-in n (a ∷ b ∷ c ∷ s) k = of-both (FormIn n) (eqb (pairOf a b) 0) no-form (data-form afterLong n 7 (pairOf a b) (c ∷ s) (after-long-in n (pairOf a b)) (omega arith))
 
-body-in : (m : ℕ) (s : List ℕ) → 4 + length s ≤ m → FormIn m (bodyOf s)
-unfolding bodyOf
-body-in m [] k = form-of 4 4 (omega arith) (omega arith) (omega arith)
-body-in m (n ∷ []) k = form-of 4 4 (omega arith) (omega arith) (omega arith)
-body-in m (n ∷ d ∷ s) k = of-both (FormIn m) (eqb n 0) (extended-in m (d ∷ s) (omega arith)) (short-length m n (d ∷ s) (omega arith))
+four-in : (m : ℕ) (s : List ℕ) → 4 + length s ≤ m → FormIn m (afterFour s)
+unfolding afterFour
+four-in m [] k = form-of 4 4 (omega arith) (omega arith) (omega arith)
+four-in m (n ∷ []) k = form-of 4 4 (omega arith) (omega arith) (omega arith)
+four-in m (n ∷ d ∷ s) k = of-both (FormIn m) (eqb n 0) (extended-in m (d ∷ s) (omega arith)) (data-form afterShort m 5 n (d ∷ s) (after-short-in m n) (omega arith))
 
 pub form-in : (s : List ℕ) → FormIn (length s) (formOf s)
 unfolding formOf afterHeader
@@ -222,4 +209,4 @@ form-in s = of-both (FormIn (length s)) (ltb commandLimit (length s)) no-form (g
     go (a ∷ []) = no-form
     go (a ∷ b ∷ []) = no-form
     go (a ∷ b ∷ c ∷ []) = no-form
-    go (a ∷ b ∷ c ∷ d ∷ l) = body-in _ l (omega arith)
+    go (a ∷ b ∷ c ∷ d ∷ l) = four-in _ l (omega arith)

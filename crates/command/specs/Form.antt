@@ -30,32 +30,29 @@ afterLong lc (d ∷ []) = Wrong
 afterLong lc (d ∷ e ∷ []) = Of 7 (7 + lc) (Number (pairOf d e))
 afterLong lc (d ∷ e ∷ f ∷ s) = Wrong
 
--- the bytes after an Lc of one byte, and of two
-unfoldable pub shortOf : ℕ → List ℕ → Form
-shortOf lc s = cond (leb lc (length s)) (afterShort lc (drop lc s)) Wrong
-
-unfoldable pub longOf : ℕ → List ℕ → Form
-longOf lc s = cond (leb lc (length s)) (afterLong lc (drop lc s)) Wrong
+-- Lc bytes of data, and what follows them
+unfoldable pub dataThen : (ℕ → List ℕ → Form) → ℕ → List ℕ → Form
+dataThen after lc s = cond (leb lc (length s)) (after lc (drop lc s)) Wrong
 
 -- fifth byte 00: an Le of two bytes (7 bytes), or a nonzero Lc of two bytes
 unfoldable pub extendedOf : List ℕ → Form
 extendedOf [] = Wrong
 extendedOf (d ∷ []) = Wrong
 extendedOf (d ∷ e ∷ []) = Of 4 4 (Number (pairOf d e))
-extendedOf (d ∷ e ∷ f ∷ s) = cond (eqb (pairOf d e) 0) Wrong (longOf (pairOf d e) (f ∷ s))
+extendedOf (d ∷ e ∷ f ∷ s) = cond (eqb (pairOf d e) 0) Wrong (dataThen afterLong (pairOf d e) (f ∷ s))
 
 -- after the four header bytes: nothing, Le, or a fifth byte with what follows
-unfoldable pub bodyOf : List ℕ → Form
-bodyOf [] = Of 4 4 Absent
-bodyOf (n ∷ []) = Of 4 4 (Number n)
-bodyOf (n ∷ d ∷ s) = cond (eqb n 0) (extendedOf (d ∷ s)) (shortOf n (d ∷ s))
+unfoldable pub afterFour : List ℕ → Form
+afterFour [] = Of 4 4 Absent
+afterFour (n ∷ []) = Of 4 4 (Number n)
+afterFour (n ∷ d ∷ s) = cond (eqb n 0) (extendedOf (d ∷ s)) (dataThen afterShort n (d ∷ s))
 
 unfoldable pub afterHeader : List ℕ → Form
 afterHeader [] = Wrong
 afterHeader (a ∷ []) = Wrong
 afterHeader (a ∷ b ∷ []) = Wrong
 afterHeader (a ∷ b ∷ c ∷ []) = Wrong
-afterHeader (a ∷ b ∷ c ∷ d ∷ s) = bodyOf s
+afterHeader (a ∷ b ∷ c ∷ d ∷ s) = afterFour s
 
 unfoldable pub formOf : List ℕ → Form
 formOf s = cond (ltb commandLimit (length s)) Wrong (afterHeader s)

@@ -1,6 +1,6 @@
 // The forms of ISO 7816-3.
 ghost use mathlib.Core.Path.{_≡_};
-ghost use Rattle.command.specs.Form.{formOf, shortOf, longOf, extendedOf, afterShort, afterLong, pairOf};
+ghost use Rattle.command.specs.Form.{formOf, dataThen, extendedOf, afterShort, afterLong, pairOf};
 
 // The bytes of a command, at most.
 pub const COMMAND: usize = 1024;
@@ -76,7 +76,7 @@ fn after_long(s: &[u8], lc: u16) -> Form
 
 // The data of a short form, then what follows it.
 fn short(s: &[u8], lc: u8) -> Form
-    ensures { λ r. ⌜ r ≡ shortOf lc (now (s .entry)) ⌝ }
+    ensures { λ r. ⌜ r ≡ dataThen afterShort lc (now (s .entry)) ⌝ }
 {
     let n = lc as usize;
     if n <= s.len() {
@@ -87,7 +87,7 @@ fn short(s: &[u8], lc: u8) -> Form
 
 // The data of an extended form, then what follows it.
 fn long(s: &[u8], lc: u16) -> Form
-    ensures { λ r. ⌜ r ≡ longOf lc (now (s .entry)) ⌝ }
+    ensures { λ r. ⌜ r ≡ dataThen afterLong lc (now (s .entry)) ⌝ }
 {
     let n = lc as usize;
     if n <= s.len() {

@@ -7,9 +7,9 @@ use lib.Dec.{eqb}
 use lib.ListN.{length}
 use Rattle.laws.proofs.Bools.{and-r}
 use Rattle.strings.specs.Bytes.{allOf}
-use Rattle.days.specs.Days.{isDay, dayOf, dayFits}
+use Rattle.days.specs.Days.{isDate, dayOf, dayFits}
 use Rattle.strings.specs.declared.Class.the-variants.{Digit}
 
-pub day-good : (c : List ℕ) → isDay c ≡ true → dayFits (record { 0 = dayOf c }) ≡ true
-unfolding isDay dayFits
+pub day-good : (c : List ℕ) → isDate c ≡ true → dayFits (record { 0 = dayOf c }) ≡ true
+unfolding isDate dayFits
 day-good c h = and-r (allOf Digit c) _ (and-r (eqb (length c) 6) _ h)

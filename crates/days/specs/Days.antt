@@ -11,21 +11,22 @@ use Rattle.days.specs.declared.Dated.{Dated}
 use Rattle.days.specs.declared.Dated.the-variants.{On, NoDay}
 
 -- a day is the number YYYYMMDD; which days there are is said here alone
-unfoldable pub isDate : ℕ → Bool
-isDate n = among 2000 2099 (n / 10000) && (among 1 12 (n / 100 % 100) && among 1 31 (n % 100))
+unfoldable pub isDay : ℕ → Bool
+isDay n = among 2000 2099 (n / 10000) && (among 1 12 (n / 100 % 100) && among 1 31 (n % 100))
 
 unfoldable pub dayFits : Day → Bool
-dayFits d = isDate (d .0)
+dayFits d = isDay (d .0)
 
 -- the number that YYMMDD writes, 20 before it
 abbrev pub dayOf : List ℕ → ℕ
 dayOf c = number 10 20 c
 
-unfoldable pub isDay : List ℕ → Bool
-isDay c = eqb (length c) 6 && (allOf Digit c && isDate (dayOf c))
+-- six bytes YYMMDD that write a day
+unfoldable pub isDate : List ℕ → Bool
+isDate c = eqb (length c) 6 && (allOf Digit c && isDay (dayOf c))
 
 unfoldable pub dated : List ℕ → Dated
-dated c = cond (isDay c) (On (record { 0 = dayOf c })) NoDay
+dated c = cond (isDate c) (On (record { 0 = dayOf c })) NoDay
 
 unfoldable pub before : Day → Day → Bool
 before a b = ltb (a .0) (b .0)

@@ -3,7 +3,7 @@ ghost use mathlib.Core.Path.{_≡_};
 ghost use Prim.Native.Nat.{_+_, _*_, _≤_};
 ghost use lib.ListN.{length};
 ghost use Rattle.strings.specs.Bytes.{number};
-ghost use Rattle.days.specs.Days.{isDate, dayFits, dated, before, later};
+ghost use Rattle.days.specs.Days.{isDay, dayFits, dated, before, later};
 use strings::Class;
 use strings::all;
 
@@ -16,8 +16,8 @@ pub enum Dated {
 }
 
 // Whether there is such a day. The calendar stands here alone.
-fn is_date(n: u32) -> bool
-    ensures { λ r. ⌜ r ≡ isDate n ⌝ }
+fn is_day(n: u32) -> bool
+    ensures { λ r. ⌜ r ≡ isDay n ⌝ }
 {
     let y = n / 10000;
     let m = n / 100 % 100;
@@ -52,7 +52,7 @@ pub fn day_of(s: &[u8]) -> Dated
         return Dated::NoDay;
     }
     let n = six(s);
-    if is_date(n) {
+    if is_day(n) {
         Dated::On(Day(n))
     } else {
         Dated::NoDay
@@ -64,7 +64,7 @@ impl Day {
     pub fn fits(self) -> bool
         ensures { λ r. ⌜ r ≡ dayFits self ⌝ }
     {
-        is_date(self.0)
+        is_day(self.0)
     }
 
     pub fn before(self, other: Day) -> bool

@@ -1,32 +1,26 @@
 -- Reading what was printed gives it back: bytes in hex, digits of a fixed number, decimals. Assumes nothing.
-use Prim.Native.Nat.{ℕ, zero, suc, _+_, _-_, _*_, _/_, _%_, _^_, _≤_, _<_}
-use mathlib.Core.Path.{_≡_, refl, sym, ap, _∙_}
+use Prim.Native.Nat.{ℕ, zero, suc, _+_, _*_, _/_, _%_, _^_, _≤_, _<_}
+use mathlib.Core.Path.{_≡_, refl}
 use mathlib.Core.Bool.{Bool, true, false, _&&_, _||_}
 use mathlib.Core.List.{List, [], _∷_, _++_}
 use native.Mathlib.Nat.{mod-lt, div-add-mod', div-lt-iff-lt-mul, pow-suc, pow-zero}
 use native.Mathlib.Omega.{arith}
 use lib.Dec.{leb, ltb, eqb}
 use lib.ListN.{length}
-use borrow.Author.Tests.{le-leb, lt-leb, lt-ltb, le-ltb, ltb-true, ltb-false, eq-eqb, ne-eqb}
-use Rattle.laws.proofs.Bools.{and-l, and-r, and-no, both}
+use borrow.Author.Tests.{le-leb, lt-ltb, ltb-true, ltb-false, eq-eqb, ne-eqb}
+use Rattle.laws.proofs.Bools.{and-l, and-r, both}
 use Rattle.strings.specs.Bytes.{among, eqbs}
+use Rattle.strings.proofs.Strings.{among-in, among-over}
 use Rattle.digits.specs.declared.number.Radix.{Radix}
-use Rattle.digits.specs.declared.number.Radix.the-variants.{Ten, Sixteen}
+use Rattle.digits.specs.declared.number.Radix.the-variants.{Ten}
 use Rattle.digits.specs.declared.number.Number.the-variants.{Is}
 use Rattle.digits.specs.declared.hex.Taken.the-variants.{Bytes}
-use Rattle.digits.specs.Digits.{baseOf, glyph, worth, isDigit, digits, places, decimal, allDigits, value, grown, following, numberOf}
+use Rattle.digits.specs.Digits.{baseOf, glyph, worth, isDigit, digits, places, decimal, allDigits, value, largest, grown, following, numberOf}
 use Rattle.digits.specs.Hex.{pairs, dash, hexOf, bytesOf, isHex, hexRead, hexLaid}
 use Rattle.digits.proofs.Digits.{base-some, base-most, glyph-low, glyph-high, digits-long}
-use Rattle.digits.proofs.Numbers.{most}
 use Rattle.digits.proofs.Pairs.{pairs-long, hex-some}
 
 -- ---- one digit
-
-among-in : (a e c : ℕ) → a ≤ c → c ≤ e → among a e c ≡ true
-among-in a e c h k = rw (le-leb a c h, le-leb c e k)
-
-among-over : (a e c : ℕ) → e < c → among a e c ≡ false
-among-over a e c h = and-no (leb a c) (leb c e) (lt-leb c e h)
 
 worth-glyph : (d : ℕ) → d < 16 → worth (glyph d) ≡ d
 unfolding worth
@@ -120,14 +114,14 @@ module _ (base : ℕ) (some : 0 < base) (few : base ≤ 16) where
       let m = mod-lt n some in
       rw (value-last base 0 (glyph (n % base)) (digits base k (n / base)), digits-value k (n / base) (div-lt-iff-lt-mul some .1 l), worth-glyph (n % base) (omega arith)) (div-add-mod' n base)
 
-  digits-read : (k n : ℕ) → 0 < k → n < base ^ k → n ≤ most → numberOf base (digits base k n) ≡ Is n
+  digits-read : (k n : ℕ) → 0 < k → n < base ^ k → n ≤ largest → numberOf base (digits base k n) ≡ Is n
   unfolding numberOf following grown
   digits-read k n p h m =
       let l = digits-long base k n in
-      rw (ne-eqb (length (digits base k n)) 0 (λ e. omega arith), digits-good k n, digits-value k n h, le-leb n most m)
+      rw (ne-eqb (length (digits base k n)) 0 (λ e. omega arith), digits-good k n, digits-value k n h, le-leb n largest m)
 
 -- a number printed in so many digits, if it has no more
-pub fixed-back : (radix : Radix) (k n : ℕ) → 0 < k → n < baseOf radix ^ k → n ≤ most → numberOf (baseOf radix) (digits (baseOf radix) k n) ≡ Is n
+pub fixed-back : (radix : Radix) (k n : ℕ) → 0 < k → n < baseOf radix ^ k → n ≤ largest → numberOf (baseOf radix) (digits (baseOf radix) k n) ≡ Is n
 fixed-back radix = digits-read (baseOf radix) (base-some radix (baseOf radix) refl) (base-most radix (baseOf radix) refl)
 
 -- as many digits as it takes hold the number
@@ -150,6 +144,6 @@ places-some (suc f) n = go (ltb n 10) refl
     go false q = rw q (omega arith)
 
 -- every number of 64 bits
-pub decimal-back : (n : ℕ) → n ≤ most → numberOf 10 (decimal n) ≡ Is n
+pub decimal-back : (n : ℕ) → n ≤ largest → numberOf 10 (decimal n) ≡ Is n
 unfolding decimal
 decimal-back n h = fixed-back Ten (places 19 n) n (places-some 19 n) (places-hold 19 n (omega arith)) h

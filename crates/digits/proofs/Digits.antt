@@ -1,16 +1,16 @@
 -- Characters and the digits that they are. Assumes nothing.
-use Prim.Native.Nat.{ℕ, zero, suc, _+_, _-_, _*_, _/_, _%_, _≤_, _<_}
+use Prim.Native.Nat.{ℕ, zero, suc, _+_, _-_, _/_, _%_, _≤_, _<_}
 use mathlib.Core.Path.{_≡_, refl, sym, ap, _∙_}
-use mathlib.Core.Bool.{Bool, true, false, not, _&&_}
-use mathlib.Core.List.{List, [], _∷_, _++_}
+use mathlib.Core.Bool.{Bool, true, false, not}
+use mathlib.Core.List.{List, [], _∷_}
 use native.Mathlib.Numerals.{add-one}
 use native.Mathlib.Omega.{arith}
-use lib.Dec.{leb, ltb}
+use lib.Dec.{leb}
 use lib.ListN.{length, drop, getD, set, length-append}
 use lib.Seq.{drop-cons}
-use borrow.Author.Tests.{leb-true, lt-ltb, le-ltb, not-true, not-false}
-use Rattle.laws.proofs.Bools.{and-l, and-r}
+use borrow.Author.Tests.{lt-ltb, le-ltb, not-true, not-false}
 use Rattle.strings.specs.Bytes.{among}
+use Rattle.strings.proofs.Strings.{among-low, among-high}
 use Rattle.reply.specs.Lay.{over, Put}
 use Rattle.text.specs.Room.{fitting}
 use Rattle.digits.specs.declared.number.Radix.{Radix}
@@ -35,13 +35,6 @@ glyph-low d h = rw (lt-ltb d 10 h)
 pub glyph-high : (d : ℕ) → 10 ≤ d → 0x37 + d ≡ glyph d
 unfolding glyph
 glyph-high d h = rw (le-ltb d 10 h)
-
-module _ (a e c : ℕ) (h : among a e c ≡ true) where
-  pub among-low : a ≤ c
-  among-low = leb-true a c (and-l (leb a c) (leb c e) h)
-
-  pub among-high : c ≤ e
-  among-high = leb-true c e (and-r (leb a c) (leb c e) h)
 
 module _ (c : ℕ) where
   pub upper-less : among 0x41 0x46 c ≡ true → 0x37 ≤ c

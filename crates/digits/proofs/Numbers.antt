@@ -13,41 +13,38 @@ use borrow.Author.Tests.{leb-true, leb-false, le-leb, lt-leb, not-true, not-fals
 use Rattle.digits.specs.declared.number.Number.{Number}
 use Rattle.digits.specs.declared.number.Number.the-variants.{Is, NoNumber}
 use Rattle.digits.specs.declared.number.Radix.{Radix}
-use Rattle.digits.specs.Digits.{baseOf, worth, isDigit, allDigits, value, grown, following, numberOf}
-
-abbrev pub most : ℕ
-most = 0xFFFFFFFFFFFFFFFF
+use Rattle.digits.specs.Digits.{baseOf, worth, isDigit, allDigits, value, largest, grown, following, numberOf}
 
 -- ---- one digit more
 
 module _ (n base d : ℕ) (h : 0 < base) (k : d < 16) where
-  pub over-most : (most - d) / base < n → NoNumber ≡ grown (n * base + d)
+  pub over-most : (largest - d) / base < n → NoNumber ≡ grown (n * base + d)
   unfolding grown
-  over-most l = let m = div-lt-iff-lt-mul h .0 l in rw (lt-leb (n * base + d) most (omega arith))
+  over-most l = let m = div-lt-iff-lt-mul h .0 l in rw (lt-leb (n * base + d) largest (omega arith))
 
-  pub in-most : n ≤ (most - d) / base → n * base + d ≤ most
+  pub in-most : n ≤ (largest - d) / base → n * base + d ≤ largest
   in-most l = let m = le-div-iff-mul-le h .0 l in omega arith
 
-  pub within-most : n ≤ (most - d) / base → Is (n * base + d) ≡ grown (n * base + d)
+  pub within-most : n ≤ (largest - d) / base → Is (n * base + d) ≡ grown (n * base + d)
   unfolding grown
-  within-most l = rw (le-leb (n * base + d) most (in-most l))
+  within-most l = rw (le-leb (n * base + d) largest (in-most l))
 
 -- what a number that fits is, and what one that does not
-grown-is : (x m : ℕ) → Is m ≡ grown x → (m ≡ x) × (x ≤ most)
+grown-is : (x m : ℕ) → Is m ≡ grown x → (m ≡ x) × (x ≤ largest)
 unfolding grown
-grown-is x m e = go (leb x most) refl
+grown-is x m e = go (leb x largest) refl
   where
-    go : (b : Bool) → leb x most ≡ b → (m ≡ x) × (x ≤ most)
-    go true q = let f = rw q at e in ((cc), leb-true x most q)
+    go : (b : Bool) → leb x largest ≡ b → (m ≡ x) × (x ≤ largest)
+    go true q = let f = rw q at e in ((cc), leb-true x largest q)
     go false q = let f = rw q at e in absurd (let z : _≡_ {A = ℕ} 0 1 = cc in omega arith)
 
-grown-not : (x : ℕ) → NoNumber ≡ grown x → most < x
+grown-not : (x : ℕ) → NoNumber ≡ grown x → largest < x
 unfolding grown
-grown-not x e = go (leb x most) refl
+grown-not x e = go (leb x largest) refl
   where
-    go : (b : Bool) → leb x most ≡ b → most < x
+    go : (b : Bool) → leb x largest ≡ b → largest < x
     go true q = let f = rw q at e in absurd (let z : _≡_ {A = ℕ} 0 1 = cc in omega arith)
-    go false q = leb-false x most q
+    go false q = leb-false x largest q
 
 -- ---- the digits that are left
 
@@ -55,9 +52,9 @@ value-from : (base n : ℕ) (s : List ℕ) → 0 < base → n ≤ value base n s
 value-from base n [] h = omega arith
 value-from base n (c ∷ s) h = let k = value-from base (n * base + worth c) s h in let l = le-mul-of-pos-right n h in omega arith
 
-read-end : (base n i : ℕ) (s : List ℕ) → length s ≤ i → n ≤ most → following base n (drop i s) ≡ Is n
+read-end : (base n i : ℕ) (s : List ℕ) → length s ≤ i → n ≤ largest → following base n (drop i s) ≡ Is n
 unfolding following grown
-read-end base n i s h k = rw (drop-of-length-le s {i = i} h, le-leb n most k)
+read-end base n i s h k = rw (drop-of-length-le s {i = i} h, le-leb n largest k)
 
 module _ (base n : ℕ) (s : List ℕ) (i : ℕ) (b : Bool) (h : i < length s) (e : b ≡ isDigit base (getD s i 0)) where
   read-off : not b ≡ true → following base n (drop i s) ≡ NoNumber
@@ -73,9 +70,9 @@ module _ (base n : ℕ) (s : List ℕ) (i : ℕ) (b : Bool) (h : i < length s) (
   read-over p f g =
       let k = grown-not (n * base + worth (getD s i 0)) g in
       let l = value-from base (n * base + worth (getD s i 0)) (drop (suc i) s) p in
-      rw (drop-cons s i 0 h, ← e, not-false b f) (go (allDigits base (drop (suc i) s)) (value base (n * base + worth (getD s i 0)) (drop (suc i) s)) (lt-leb (value base (n * base + worth (getD s i 0)) (drop (suc i) s)) most (omega arith)))
+      rw (drop-cons s i 0 h, ← e, not-false b f) (go (allDigits base (drop (suc i) s)) (value base (n * base + worth (getD s i 0)) (drop (suc i) s)) (lt-leb (value base (n * base + worth (getD s i 0)) (drop (suc i) s)) largest (omega arith)))
     where
-      go : (t : Bool) (v : ℕ) → leb v most ≡ false → cond t (cond (leb v most) (Is v) NoNumber) NoNumber ≡ NoNumber
+      go : (t : Bool) (v : ℕ) → leb v largest ≡ false → cond t (cond (leb v largest) (Is v) NoNumber) NoNumber ≡ NoNumber
       go true v q = rw q
       go false v q = refl
 
@@ -90,7 +87,7 @@ module _ (radix : Radix) (base n i : ℕ) (s : List ℕ) (known : base ≡ baseO
   unfolding numberOf
   from-start = rw (← known, ne-eqb (length s) 0 some) inv
 
-  pub end-read : length s ≤ i → n ≤ most → Is n ≡ numberOf (baseOf radix) s
+  pub end-read : length s ≤ i → n ≤ largest → Is n ≡ numberOf (baseOf radix) s
   end-read h k = sym (from-start ∙ read-end base n i s h k)
 
   module _ (b : Bool) (h : i < length s) (e : b ≡ isDigit base (getD s i 0)) where
@@ -103,5 +100,5 @@ module _ (radix : Radix) (base n i : ℕ) (s : List ℕ) (known : base ≡ baseO
     pub on-read : (d m : ℕ) (g : Number) → not b ≡ false → d ≡ worth (getD s i 0) → g ≡ grown (n * base + d) → g ≡ Is m → following base 0 s ≡ following base m (drop (i + 1) s)
     on-read d m g f w k t = inv ∙ read-on base n s i b h e m f (sym t ∙ k ∙ ap (λ (x : ℕ). grown (n * base + x)) w)
 
-pub grown-most : (m x : ℕ) (g : Number) → g ≡ grown x → g ≡ Is m → m ≤ most
+pub grown-most : (m x : ℕ) (g : Number) → g ≡ grown x → g ≡ Is m → m ≤ largest
 grown-most m x g k t = let p = grown-is x m (sym t ∙ k) in omega arith

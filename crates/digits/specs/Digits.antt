@@ -1,6 +1,6 @@
 -- Numbers by their digits. Assumes nothing: these are definitions.
 use Prim.Native.Nat.{ℕ, zero, suc, _+_, _-_, _*_, _/_, _%_}
-use mathlib.Core.Bool.{Bool, true, false, cond, _&&_, _||_}
+use mathlib.Core.Bool.{Bool, true, cond, _&&_, _||_}
 use mathlib.Core.List.{List, [], _∷_, _++_}
 use lib.Dec.{eqb, leb, ltb}
 use lib.ListN.{length}
@@ -53,9 +53,13 @@ abbrev pub value : ℕ → ℕ → List ℕ → ℕ
 value base n [] = n
 value base n (c ∷ s) = value base (n * base + worth c) s
 
--- a number that 64 bits hold
+-- the largest number that 64 bits hold
+abbrev pub largest : ℕ
+largest = 0xFFFFFFFFFFFFFFFF
+
+-- a number, if it is no larger
 unfoldable pub grown : ℕ → Number
-grown n = cond (leb n 0xFFFFFFFFFFFFFFFF) (Is n) NoNumber
+grown n = cond (leb n largest) (Is n) NoNumber
 
 -- n's digits and then these, where they are digits
 unfoldable pub following : ℕ → ℕ → List ℕ → Number

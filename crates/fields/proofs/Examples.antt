@@ -4,12 +4,12 @@ use mathlib.Core.Bool.{false}
 use mathlib.Core.Path.{_≡_, refl}
 use mathlib.Core.List.{List, [], _∷_, _++_}
 use lib.ListN.{replicate}
-use Rattle.objects.specs.Objects.{objectsIn, objects, objectsOf, foundIn, headerOf, tagOf, tag2, lenOf, len1}
+use Rattle.objects.specs.Objects.{objectsIn, objects, objectsOf, foundIn, headerOf, tagOf, secondTagByte, lenOf, lengthAfter81}
 use Rattle.objects.specs.Chain.{taken}
 use Rattle.names.specs.Names.{isName, nameOf}
 use Rattle.keys.specs.Keys.{isKey, keyOf}
 use Rattle.rights.specs.Rights.{isRights, granted}
-use Rattle.command.specs.Form.{formOf, afterHeader, bodyOf, shortOf, afterShort}
+use Rattle.command.specs.Form.{formOf, afterHeader, afterFour, dataThen, afterShort}
 use Rattle.command.specs.Kind.{kindOf}
 use Rattle.command.specs.Shape.{shapeOf, headedOf}
 use Rattle.command.specs.declared.kind.Kind.the-variants.{SelectIssuer, ChangePin as KindPin}
@@ -54,7 +54,7 @@ pub choices :
     × (choiceOf (password 3 ++ rights ++ (0x00 ∷ 0x00 ∷ [])) ≡ Bad)
     -- another identifier
     × (choiceOf (protocol 3 2 2 ++ (0x83 ∷ 0x01 ∷ 0x02 ∷ [])) ≡ Bad)
-unfolding choiceOf reading protocolThen passwordThen rightsThen lastly chosenBy taken granted isRights objectsIn objects objectsOf foundIn headerOf tagOf tag2 lenOf
+unfolding choiceOf reading protocolThen passwordThen rightsThen lastly chosenBy taken granted isRights objectsIn objects objectsOf foundIn headerOf tagOf secondTagByte lenOf
 choices = (refl, refl, refl, refl, refl, refl, refl)
 
 pub contents :
@@ -69,7 +69,7 @@ pub contents :
     × (generalOf (0x7C ∷ 0x81 ∷ 0x90 ∷ 0x83 ∷ 0x81 ∷ 0x8D ∷ replicate 141 0x11) ≡ Bad)
     -- something after 7C
     × (generalOf (0x7C ∷ 0x00 ∷ 0x7C ∷ 0x00 ∷ []) ≡ Bad)
-unfolding generalOf reading heldIn lastly holds lastOf fitted taken objectsIn objects objectsOf foundIn headerOf tagOf tag2 lenOf len1
+unfolding generalOf reading heldIn lastly holds lastOf fitted taken objectsIn objects objectsOf foundIn headerOf tagOf secondTagByte lenOf lengthAfter81
 contents = (refl, refl, refl, refl, refl, refl)
 
 -- UTTERM00001, and 83 with it
@@ -97,7 +97,7 @@ pub names :
     -- 60 objects in 67 are 64 in all, and 61 are one too many
     × (announceOf (protocol 2 2 3 ++ named ++ (0x67 ∷ 0x78 ∷ replicate 120 0x00) ++ key 1) ≡ announcing (nameOf name) (keyOf (0x02 ∷ [])))
     × (announceOf (protocol 2 2 3 ++ named ++ (0x67 ∷ 0x7A ∷ replicate 122 0x00) ++ key 1) ≡ bad)
-unfolding selectOf announceOf reading announce.protocolThen terminalThen auxiliaryThen keyThen lastly taken isName isKey objectsIn objects objectsOf foundIn headerOf tagOf tag2 lenOf len1
+unfolding selectOf announceOf reading announce.protocolThen terminalThen auxiliaryThen keyThen lastly taken isName isKey objectsIn objects objectsOf foundIn headerOf tagOf secondTagByte lenOf lengthAfter81
 names = (refl, refl, refl, refl, refl, refl, refl, refl)
 
 pub others :
@@ -111,7 +111,7 @@ pub others :
     -- five digits, and a byte 3A
     × (pinOf (0x31 ∷ 0x32 ∷ 0x33 ∷ 0x34 ∷ 0x35 ∷ []) ≡ Bad)
     × (pinOf (0x31 ∷ 0x32 ∷ 0x33 ∷ 0x34 ∷ 0x35 ∷ 0x3A ∷ []) ≡ Bad)
-unfolding chipOf reading referenceIn holds lastOf fitted pinOf taken objectsIn objects objectsOf foundIn headerOf tagOf tag2 lenOf
+unfolding chipOf reading referenceIn holds lastOf fitted pinOf taken objectsIn objects objectsOf foundIn headerOf tagOf secondTagByte lenOf
 others = (refl, refl, refl, refl, refl, refl, refl)
 
 -- whole commands: a select, a PIN of five digits, an unknown INS
@@ -119,5 +119,5 @@ pub commands :
     (askedOf (0x00 ∷ 0x22 ∷ 0x81 ∷ 0xB6 ∷ 0x0D ∷ named) ≡ asking SelectIssuer false (selecting (nameOf name)))
     × (askedOf (0x00 ∷ 0x2C ∷ 0x02 ∷ 0x03 ∷ 0x05 ∷ 0x31 ∷ 0x32 ∷ 0x33 ∷ 0x34 ∷ 0x35 ∷ []) ≡ asking KindPin false bad)
     × (askedOf (0x00 ∷ 0xFF ∷ 0x00 ∷ 0x00 ∷ []) ≡ refusing Instruction)
-unfolding askedOf dataOf selectOf pinOf reading lastly taken isName objectsIn objects objectsOf foundIn headerOf tagOf tag2 lenOf shapeOf formOf afterHeader bodyOf shortOf afterShort headedOf kindOf
+unfolding askedOf dataOf selectOf pinOf reading lastly taken isName objectsIn objects objectsOf foundIn headerOf tagOf secondTagByte lenOf shapeOf formOf afterHeader afterFour dataThen afterShort headedOf kindOf
 commands = (refl, refl, refl)

@@ -17,7 +17,8 @@ use Rattle.objects.specs.declared.Count.the-variants.{Objects}
 use Rattle.objects.specs.declared.Found.{Found}
 use Rattle.objects.specs.declared.Found.the-variants.{Content, Missing}
 use Rattle.objects.proofs.Sizes.{found-sizes}
-use Rattle.objects.proofs.Chain.{rest, answered-counted, counted-no, counted-over, none-counts, flat-counts, taken-is, flat-taken, nest-taken}
+use Rattle.objects.proofs.Fuel.{objects-none}
+use Rattle.objects.proofs.Chain.{rest, answered-counted, counted-no, counted-over, flat-counts, taken-is, flat-taken, nest-taken}
 use Rattle.fields.specs.Taking.{reading, lastly, sized, fitted, fittedBy, lastOf, there, holds}
 
 -- ---- an object that was found and fits, and one that is the last
@@ -141,7 +142,7 @@ module _ {R : Type 0} (fail : R) (used d : ℕ) (s : List ℕ) (t : ℕ) (k : Li
     last-on a e p h y =
         let l = last-is (length s) f a e (sym ends ∙ p) in
         let q = fitted-is t false fits s a e (sym is ∙ l .0) in
-        let c : objects d s ≡ Objects 1 = rw (flat-counts d s t a e (q .0), none-counts d (drop e s) (ended s e (l .1))) in
+        let c : objects d s ≡ Objects 1 = rw (flat-counts d s t a e (q .0), objects-none d (drop e s) (ended s e (l .1))) in
         y ∙ rw (lastly-is fail t false fits s k a e (q .0) (q .1) (l .1), c) (sym (counted-few fail used 1 (k (part a e s)) (omega arith)))
 
   module _ (is : f ≡ foundIn t true s) where
@@ -163,7 +164,7 @@ module _ {R : Type 0} (fail : R) (used d : ℕ) (s : List ℕ) (t : ℕ) (k : Li
         go : (y : R) → k (part a e s) ≡ y → Few fail most (objects (d - 1) (part a e s)) y → counted fail used (objects d s) (lastly fail t true any s k) ≡ y
         go y j failed = rw (lastly-is fail t true any s k a e (sym is ∙ l .0) refl (l .1), j) (counted-no fail used (objects d s))
         go y j (few m c n) =
-            rw (nest-taken fail used d s t any (λ c e r n. cond (eqb (length r) 0) (k c) fail) a e m o (sym is ∙ l .0) refl c, none-counts d (rest s e) z, eq-eqb (length (rest s e)) 0 z, j)
+            rw (nest-taken fail used d s t any (λ c e r n. cond (eqb (length r) 0) (k c) fail) a e m o (sym is ∙ l .0) refl c, objects-none d (rest s e) z, eq-eqb (length (rest s e)) 0 z, j)
             (counted-few fail (used + (m + 1)) 0 y (omega arith))
 
 -- as many objects used as there may be: none is left for another
@@ -192,4 +193,4 @@ holds-count d t least most s = go (lastOf (length s) (fitted t false (sized leas
     go (Content a e) q h =
         let l = last-is (length s) (fitted t false (sized least most) s) a e q in
         let p = fitted-is t false (sized least most) s a e (l .0) in
-        rw (flat-counts d s t a e (p .0), none-counts d (drop e s) (ended s e (l .1)))
+        rw (flat-counts d s t a e (p .0), objects-none d (drop e s) (ended s e (l .1)))

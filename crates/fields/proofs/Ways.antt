@@ -24,7 +24,8 @@ use Rattle.objects.specs.declared.Found.{Found}
 use Rattle.objects.specs.declared.Found.the-variants.{Content, Missing}
 use Rattle.objects.proofs.Sizes.{found-sizes, part-length}
 use Rattle.objects.proofs.Counts.{kept-objects}
-use Rattle.objects.proofs.Chain.{rest, none-counts, found-start, found-end, nest-counts, nest-refused, counted-plus}
+use Rattle.objects.proofs.Fuel.{objects-none}
+use Rattle.objects.proofs.Chain.{rest, found-start, found-end, nest-counts, nest-refused, counted-plus}
 use Rattle.strings.specs.Bytes.{among, allOf, longest}
 use Rattle.strings.specs.declared.Class.the-variants.{Numeral}
 use Rattle.names.specs.Names.{isName, noName, nameOf}
@@ -169,7 +170,7 @@ rights-few d p s = go (isRights s) refl
 module _ (s : List ℕ) (p : ℕ) (x : Ask) where
   pub rights-none : length s ≡ 0 → x ≡ chosen p → x ≡ counted Bad 2 (objectsAt 1 s) (rightsThen p s)
   unfolding rightsThen
-  rights-none h y = y ∙ rw (none-counts 7 s h, eq-eqb (length s) 0 h) (sym (few-counted Bad 2 0 (Objects 0) (chosen p) (few 0 refl (omega arith)) (omega arith)))
+  rights-none h y = y ∙ rw (objects-none 7 s h, eq-eqb (length s) 0 h) (sym (few-counted Bad 2 0 (Objects 0) (chosen p) (few 0 refl (omega arith)) (omega arith)))
 
   module _ (some : length s ≡ 0 → ⊥) (f g : Found) (is : f ≡ foundIn 0x7F4C true s) (ends : g ≡ lastOf (length s) f) where
     pub rights-off : x ≡ Bad → g ≡ Missing → x ≡ counted Bad 2 (objectsAt 1 s) (rightsThen p s)
@@ -207,7 +208,7 @@ module _ (s : List ℕ) (f : Found) (is : f ≡ fitted 0x83 false (sized 1 1) s)
 
 -- nothing, or one object of so many bytes
 none-few : (d most : ℕ) (s : List ℕ) {x : Ask} → eqb (length s) 0 ≡ true → Few Bad most (objects d s) x
-none-few d most s h = few 0 (none-counts d s (eqb-true (length s) 0 h)) (omega arith)
+none-few d most s h = few 0 (objects-none d s (eqb-true (length s) 0 h)) (omega arith)
 
 holds-few : (d t least most : ℕ) (s : List ℕ) {x : Ask} → holds t least most s ≡ true → Few Bad 1 (objects d s) x
 holds-few d t least most s h = few 1 (holds-count d t least most s h) (omega arith)

@@ -5,7 +5,7 @@ use strings::clip;
 use strings::copy;
 use strings::same;
 
-// A key's bytes, and zeros after them; no key where the length is 0.
+// A key's bytes; what stands after them is never judged. No key where the length is 0.
 pub struct Key {
     pub bytes: [u8; 66],
     pub len: usize,

@@ -19,10 +19,6 @@ and-r false b e = true-false (sym e)
 pub both : (a b : Bool) → a ≡ true → b ≡ true → a && b ≡ true
 both a b e f = rw (e, f)
 
-pub and-assoc : (a b c : Bool) → (a && b) && c ≡ a && (b && c)
-and-assoc true b c = refl
-and-assoc false b c = refl
-
 pub and-no : (a b : Bool) → b ≡ false → a && b ≡ false
 and-no true b e = e
 and-no false b e = refl
@@ -30,10 +26,6 @@ and-no false b e = refl
 pub or-l : (a b : Bool) → a || b ≡ false → a ≡ false
 or-l true b e = e
 or-l false b e = refl
-
-pub or-r : (a b : Bool) → a || b ≡ false → b ≡ false
-or-r true b e = true-false e
-or-r false b e = e
 
 -- what holds of both holds of the one that is picked
 pub of-both : {A : Type 0} (P : A → Type 0) (b : Bool) {x y : A} → P x → P y → P (cond b x y)

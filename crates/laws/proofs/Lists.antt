@@ -65,12 +65,23 @@ drop-min zero l = rw zero-min
 drop-min (suc k) [] = rw min-zero
 drop-min (suc k) (x ∷ xs) = rw (suc-min-suc k (length xs)) (drop-min k xs)
 
+-- a length cut to one within the array is within it
+module _ (l : List ℕ) where
+  pub whole-in : (n : ℕ) → length l ≡ n → n ≤ length l
+  whole-in n e = omega arith
+
+  pub cut-in : (k n m : ℕ) → m ≡ min k n → n ≤ length l → m ≤ length l
+  cut-in k n m h i = omega arith
+
+  pub cut-long : (m : ℕ) → m ≤ length l → m ≡ length (take m l)
+  cut-long m i = sym (length-take-le m l i)
+
 module _ (l : List ℕ) (n k m : ℕ) (e : length l ≡ n) (h : m ≡ min k n) where
   pub clip-in : m ≤ length l
-  clip-in = omega arith
+  clip-in = cut-in l k n m h (whole-in l n e)
 
   pub clip-long : m ≡ length (take m l)
-  clip-long = sym (length-take-le m l (omega arith))
+  clip-long = cut-long l m clip-in
 
   pub take-clip : take m l ≡ take k l
   take-clip = ap (λ (j : ℕ). take j l) (h ∙ ap (λ (j : ℕ). min k j) (sym e)) ∙ take-min k l
@@ -78,9 +89,6 @@ module _ (l : List ℕ) (n k m : ℕ) (e : length l ≡ n) (h : m ≡ min k n) w
 -- ---- bytes copied to the start of an array
 
 module _ (s o : List ℕ) where
-  pub copied-none : o ≡ take 0 s ++ drop 0 o
-  copied-none = refl
-
   -- one byte more
   pub copied-one : (i : ℕ) → i < length s → i < length o → set (take i s ++ drop i o) i (getD s i 0) ≡ take (i + 1) s ++ drop (i + 1) o
   copied-one i h l =

@@ -4,26 +4,26 @@ use native.Mathlib.Omega.{arith}
 use mathlib.Core.Path.{_≡_, refl, sym, _∙_}
 use mathlib.Core.Bool.{Bool, true, false}
 use mathlib.Core.List.{List}
-use borrow.Author.Tests.{leb-true, le-leb}
+use borrow.Author.Tests.{le-leb}
 use lib.Dec.{leb}
 use lib.ListN.{length, replicate}
-use Rattle.laws.proofs.Bools.{and-l, and-r}
+use Rattle.laws.proofs.Bools.{and-l}
 use Rattle.strings.specs.Bytes.{among}
-use Rattle.names.specs.Names.{isName, nameOf, nameBytes, nameFits, sameName}
+use Rattle.names.specs.Names.{places, isName, nameOf, nameBytes, nameFits, sameName}
 use Rattle.names.specs.declared.Name.{Name}
-use Rattle.strings.proofs.Strings.{eqbs-true, eqbs-refl, kept}
+use Rattle.strings.proofs.Strings.{eqbs-true, eqbs-refl, among-high, kept}
 
-name-room : (c : List ℕ) → isName c ≡ true → length c ≤ 16
+name-room : (c : List ℕ) → isName c ≡ true → length c ≤ places
 unfolding isName
-name-room c h = leb-true (length c) 16 (and-r (leb 8 (length c)) (leb (length c) 16) (and-l (among 8 16 (length c)) _ h))
+name-room c h = among-high 8 places (length c) (and-l (among 8 places (length c)) _ h)
 
 pub name-bytes : (c : List ℕ) → isName c ≡ true → nameBytes (nameOf c) ≡ c
 unfolding nameOf
-name-bytes c h = kept (replicate 16 0) c (name-room c h)
+name-bytes c h = kept (replicate places 0) c (name-room c h)
 
-name-short : (c : List ℕ) → isName c ≡ true → leb (nameOf c .len) 16 ≡ true
+name-short : (c : List ℕ) → isName c ≡ true → leb (nameOf c .len) places ≡ true
 unfolding nameOf
-name-short c h = le-leb (min (length c) 16) 16 (omega arith)
+name-short c h = le-leb (min (length c) places) places (omega arith)
 
 pub name-good : (c : List ℕ) → isName c ≡ true → nameFits (nameOf c) ≡ true
 unfolding nameFits

@@ -8,15 +8,15 @@ use Rattle.strings.specs.Bytes.{eqbs, among, allOf, padded}
 use Rattle.strings.specs.declared.Class.the-variants.{Letter, Latin, Serial}
 use Rattle.names.specs.declared.Name.{Name}
 
+-- the places of a stored name: as many bytes as a name has at most
+abbrev pub places : ℕ
+places = 2 + 9 + 5
+
 -- two letters, then all but the last five, then those
 unfoldable pub isName : List ℕ → Bool
 isName c =
-    among (2 + 1 + 5) (2 + 9 + 5) (length c)
+    among (2 + 1 + 5) places (length c)
     && (allOf Letter (take 2 c) && allOf Latin (take (length c - 5 - 2) (drop 2 c)) && allOf Serial (drop (length c - 5) c))
-
--- the places of a stored name
-abbrev pub places : ℕ
-places = 16
 
 -- a name taken from a string: zeros follow it
 unfoldable pub nameOf : List ℕ → Name

@@ -7,7 +7,7 @@ use strings::clip;
 use strings::copy;
 use strings::same;
 
-// A name's bytes, and zeros after them.
+// A name's bytes; what stands after them is never judged.
 pub struct Name {
     pub bytes: [u8; 16],
     pub len: usize,
@@ -55,7 +55,7 @@ impl Name {
         }
     }
 
-    // Whether two names are the same, as far as their lengths go.
+    // Whether two names are the same: the same bytes, and as many. What stands after a stored length is not judged.
     pub fn same(self, other: Name) -> bool
         ensures { λ r. ⌜ r ≡ sameName self other ⌝ }
     {

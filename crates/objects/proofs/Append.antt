@@ -9,8 +9,8 @@ use mathlib.Core.Bool.{Bool, true, false, cond}
 use lib.Dec.{leb, ltb, eqb}
 use lib.ListN.{length, drop, length-drop, length-append}
 use lib.Seq.{take-append-le, drop-append-le}
-use borrow.Author.Tests.{leb-true, le-leb, ne-eqb}
-use Rattle.objects.specs.Objects.{nestBit, tagOf, tag2, lenOf, len1, len2, placed, labelled, headerOf, part, objectBy, plus, thenRest, objects, object}
+use borrow.Author.Tests.{leb-true, le-leb}
+use Rattle.objects.specs.Objects.{nestBit, tagOf, secondTagByte, lenOf, lengthAfter81, lengthAfter82, placed, labelled, headerOf, part, objectBy, plus, thenRest, objects, object}
 use Rattle.objects.specs.declared.Label.{Label}
 use Rattle.objects.specs.declared.Label.the-variants.{Tag, NoTag}
 use Rattle.objects.specs.declared.Extent.{Extent}
@@ -22,28 +22,28 @@ use Rattle.objects.specs.declared.Count.the-variants.{Objects, Refused}
 use Rattle.objects.specs.declared.One.{One}
 use Rattle.objects.specs.declared.One.the-variants.{Object, NoObject}
 use Rattle.objects.proofs.Sizes.{TagIn, tag-in, tag-sizes, HeadIn, head-sizes, header-in, OneIn, one-sizes, object-in}
-use Rattle.objects.proofs.Fuel.{objects-are}
+use Rattle.objects.proofs.Fuel.{objects-none, objects-some}
 
 module _ (u : List ℕ) where
   -- ---- a header
 
   tag-append : (s : List ℕ) (t n : ℕ) (b : Bool) → tagOf s ≡ Tag t b n → tagOf (s ++ u) ≡ tagOf s
-  unfolding tagOf tag2
+  unfolding tagOf secondTagByte
   tag-append [] t n b e = absurd (let z : _≡_ {A = ℕ} 0 1 = cc in omega arith)
-  tag-append (a ∷ []) t n b e = go (Tag a (nestBit a) 1) (eqb (a % 32) 31) e
+  tag-append (a ∷ []) t n b e = go (Tag a (nestBit a) 1) (eqb (a % 0x20) 0x1F) e
     where
-      go : (x : Label) (f : Bool) → cond f NoTag x ≡ Tag t b n → cond f (tag2 a u) x ≡ cond f NoTag x
+      go : (x : Label) (f : Bool) → cond f NoTag x ≡ Tag t b n → cond f (secondTagByte a u) x ≡ cond f NoTag x
       go x true q = absurd (let z : _≡_ {A = ℕ} 0 1 = cc in omega arith)
       go x false q = refl
   tag-append (a ∷ c ∷ s) t n b e = refl
 
   len-append : (s : List ℕ) (l m : ℕ) → lenOf s ≡ Len l m → lenOf (s ++ u) ≡ lenOf s
-  unfolding lenOf len1 len2
+  unfolding lenOf lengthAfter81 lengthAfter82
   len-append [] l m e = absurd (let z : _≡_ {A = ℕ} 0 1 = cc in omega arith)
   len-append (a ∷ []) l m e = go (Len a 1) (ltb a 128) (eqb a 0x81) (eqb a 0x82) e
     where
       go : (x : Extent) (f g h : Bool) → cond f x (cond g NoLen (cond h NoLen NoLen)) ≡ Len l m
-          → cond f x (cond g (len1 u) (cond h (len2 u) NoLen)) ≡ cond f x (cond g NoLen (cond h NoLen NoLen))
+          → cond f x (cond g (lengthAfter81 u) (cond h (lengthAfter82 u) NoLen)) ≡ cond f x (cond g NoLen (cond h NoLen NoLen))
       go x true g h q = refl
       go x false true h q = absurd (let z : _≡_ {A = ℕ} 0 1 = cc in omega arith)
       go x false false true q = absurd (let z : _≡_ {A = ℕ} 0 1 = cc in omega arith)
@@ -51,7 +51,7 @@ module _ (u : List ℕ) where
   len-append (a ∷ b ∷ []) l m e = go (Len a 1) (cond (leb 128 b) (Len b 2) NoLen) (ltb a 128) (eqb a 0x81) (eqb a 0x82) e
     where
       go : (x y : Extent) (f g h : Bool) → cond f x (cond g y (cond h NoLen NoLen)) ≡ Len l m
-          → cond f x (cond g y (cond h (len2 (b ∷ u)) NoLen)) ≡ cond f x (cond g y (cond h NoLen NoLen))
+          → cond f x (cond g y (cond h (lengthAfter82 (b ∷ u)) NoLen)) ≡ cond f x (cond g y (cond h NoLen NoLen))
       go x y true g h q = refl
       go x y false true h q = refl
       go x y false false true q = absurd (let z : _≡_ {A = ℕ} 0 1 = cc in omega arith)
@@ -110,10 +110,6 @@ plus-plus : (m n : ℕ) (c : Count) → plus m (plus n c) ≡ plus (m + n) c
 plus-plus m n Refused = refl
 plus-plus m n (Objects k) = ap Objects (sym (add-assoc m n k))
 
--- the objects of a list that is not empty
-list-some : (d x : ℕ) (s : List ℕ) → objects d (x ∷ s) ≡ thenRest (objects d) (x ∷ s) (object d (x ∷ s))
-list-some d x s = rw (objects-are d (x ∷ s), ne-eqb (length (x ∷ s)) 0 (λ z. omega arith))
-
 -- one object more in front
 module _ (d x : ℕ) (s t : List ℕ)
     (shorter : (c : List ℕ) (j : ℕ) → length c ≤ length s → objects d c ≡ Objects j → objects d (c ++ t) ≡ plus j (objects d t)) where
@@ -123,7 +119,7 @@ module _ (d x : ℕ) (s t : List ℕ)
   rest-append f m n (Objects j) q o p l r =
       let z : m + j ≡ n = cc in
       let g = length-drop f (x ∷ s) in
-      rw (list-some d x (s ++ t), object-append t d (x ∷ s) f m o, drop-append-le f (x ∷ s) t l, shorter (drop f (x ∷ s)) j (omega arith) q, sym z)
+      rw (objects-some d (x ∷ (s ++ t)) (λ y. omega arith), object-append t d (x ∷ s) f m o, drop-append-le f (x ∷ s) t l, shorter (drop f (x ∷ s)) j (omega arith) q, sym z)
       (plus-plus m j (objects d t))
 
   one-append : (n : ℕ) (o : One) → object d (x ∷ s) ≡ o → OneIn (length (x ∷ s)) o → thenRest (objects d) (x ∷ s) o ≡ Objects n
@@ -135,8 +131,8 @@ module _ (d x : ℕ) (s t : List ℕ)
 pub append-by : (k d : ℕ) (s t : List ℕ) (n : ℕ) → length s < k → objects d s ≡ Objects n → objects d (s ++ t) ≡ plus n (objects d t)
 append-by zero d s t n h e = absurd (omega arith)
 append-by (suc k) d [] t n h e =
-    let q : Objects 0 ≡ Objects n = sym (objects-are d []) ∙ e in
+    let q : Objects 0 ≡ Objects n = sym (objects-none d [] refl) ∙ e in
     let z : 0 ≡ n = cc in
     rw (sym z) (sym (plus-zero (objects d t)))
 append-by (suc k) d (x ∷ s) t n h e =
-    one-append d x s t (λ c j l q. append-by k d c t j (omega arith) q) n (object d (x ∷ s)) refl (object-whole d (x ∷ s)) (sym (list-some d x s) ∙ e)
+    one-append d x s t (λ c j l q. append-by k d c t j (omega arith) q) n (object d (x ∷ s)) refl (object-whole d (x ∷ s)) (sym (objects-some d (x ∷ s) (λ y. omega arith)) ∙ e)

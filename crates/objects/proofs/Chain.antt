@@ -5,43 +5,22 @@ use native.Mathlib.Nat.{add-assoc, zero-add}
 use native.Mathlib.Omega.{arith}
 use mathlib.Core.Path.{_≡_, refl, sym, _∙_}
 use mathlib.Core.List.{List}
-use mathlib.Core.Bool.{Bool, true, false, cond, _&&_}
-use lib.Dec.{leb, eqb}
+use mathlib.Core.Bool.{Bool, true, false, cond}
+use lib.Dec.{leb}
 use lib.ListN.{length, drop, take}
-use borrow.Author.Tests.{leb-false, lt-leb, eqb-true, eq-eqb, ne-eqb}
-use Rattle.objects.specs.Objects.{headerOf, part, objects, object, within, plus, closed, thenRest, allowance, objectsAt, objectsIn, foundIn, tagged, alike}
+use borrow.Author.Tests.{ne-eqb}
+use Rattle.objects.specs.Objects.{part, objects, object, within, plus, closed, thenRest, allowance, objectsAt, objectsIn, foundIn}
 use Rattle.objects.specs.Chain.{answered, counted, taken, takenBy}
-use Rattle.objects.specs.declared.Head.{Head}
-use Rattle.objects.specs.declared.Head.the-variants.{Header, NoHeader}
 use Rattle.objects.specs.declared.Count.{Count}
 use Rattle.objects.specs.declared.Count.the-variants.{Objects, Refused}
 use Rattle.objects.specs.declared.Found.{Found}
 use Rattle.objects.specs.declared.Found.the-variants.{Content, Missing}
 use Rattle.laws.proofs.Lists.{from}
-use Rattle.objects.proofs.Sizes.{found-sizes}
-use Rattle.objects.proofs.Fuel.{objects-are}
+use Rattle.objects.proofs.Sizes.{found-header, found-sizes}
+use Rattle.objects.proofs.Fuel.{objects-some}
+use Rattle.objects.proofs.Counts.{plus-over, over-left}
 
--- ---- an object that was found is one with that header
-
-pub found-header : (t : ℕ) (w : Bool) (s : List ℕ) (a e : ℕ) → foundIn t w s ≡ Content a e → headerOf s ≡ Header t w a e
-unfolding foundIn
-found-header t w s a e p = go (headerOf s) p
-  where
-    kind : (b v : Bool) (x y : ℕ) → cond (alike b v) (Content x y) Missing ≡ Content a e → (b ≡ v) × (x ≡ a) × (y ≡ e)
-    kind true true x y q = (refl, cc, cc)
-    kind false false x y q = (refl, cc, cc)
-    kind true false x y q = absurd (let z : _≡_ {A = ℕ} 0 1 = cc in omega arith)
-    kind false true x y q = absurd (let z : _≡_ {A = ℕ} 0 1 = cc in omega arith)
-
-    tag : (u x y : ℕ) (b f : Bool) → eqb u t ≡ f → cond (f && alike b w) (Content x y) Missing ≡ Content a e → Header u b x y ≡ Header t w a e
-    tag u x y b true i q = let k = kind b w x y q in let j = eqb-true u t i in cc
-    tag u x y b false i q = absurd (let z : _≡_ {A = ℕ} 0 1 = cc in omega arith)
-
-    go : (h : Head) → tagged t w h ≡ Content a e → h ≡ Header t w a e
-    go NoHeader q = absurd (let z : _≡_ {A = ℕ} 0 1 = cc in omega arith)
-    go (Header u b x y) q = tag u x y b (eqb u t) refl q
-
--- ---- the count of a list that starts with such an object
+-- ---- the count of a list that starts with an object that was found
 
 module _ (d : ℕ) (s : List ℕ) (t a e : ℕ) where
   some : (w : Bool) → foundIn t w s ≡ Content a e → length s ≡ 0 → ⊥
@@ -49,11 +28,11 @@ module _ (d : ℕ) (s : List ℕ) (t a e : ℕ) where
 
   pub flat-counts : foundIn t false s ≡ Content a e → objects d s ≡ plus 1 (objects d (drop e s))
   unfolding object
-  flat-counts p = rw (objects-are d s, ne-eqb (length s) 0 (some false p), found-header t false s a e p)
+  flat-counts p = rw (objects-some d s (some false p), found-header t false s a e p)
 
   pub nest-counts : 0 < d → foundIn t true s ≡ Content a e → objects d s ≡ thenRest (objects d) s (closed e (objects (d - 1) (part a e s)))
   unfolding object
-  nest-counts h p = rw (objects-are d s, ne-eqb (length s) 0 (some true p), found-header t true s a e p, ne-eqb d 0 (λ z. omega arith))
+  nest-counts h p = rw (objects-some d s (some true p), found-header t true s a e p, ne-eqb d 0 (λ z. omega arith))
 
 module _ {R : Type 0} (fail : R) where
   -- nothing is answered by a reader that has given up
@@ -75,8 +54,7 @@ module _ {R : Type 0} (fail : R) where
   -- too many used already
   pub counted-over : (used : ℕ) (c : Count) (k : ℕ → R) → allowance < used → counted fail used c k ≡ fail
   unfolding counted
-  counted-over used Refused k h = refl
-  counted-over used (Objects n) k h = let g : allowance < used + n = omega arith in simp (lt-leb _ _ g)
+  counted-over used c k h = rw (plus-over allowance used c h)
 
   -- a reading starts with nothing used
   pub answered-counted : (s : List ℕ) (k : ℕ → R) → answered fail (objectsIn s) k ≡ counted fail 0 (objectsAt 1 s) k
@@ -138,13 +116,9 @@ module _ {R : Type 0} (fail : R) (used d : ℕ) (s : List ℕ) (t a e : ℕ) whe
       over : (m : ℕ) → left < m → counted fail used (plus (m + 1) (objects d (drop e s))) g ≡ fail
       over m i = counted-plus fail used (m + 1) (objects d (drop e s)) g ∙ counted-over fail (used + (m + 1)) (objects d (drop e s)) g (omega arith)
 
-      test : (m : ℕ) (b : Bool) → leb m left ≡ b → cond b (Objects m) Refused ≡ Refused → left < m
-      test m true i j = absurd (let z : _≡_ {A = ℕ} 0 1 = cc in omega arith)
-      test m false i j = leb-false m left i
-
       go : (c : Count) → within left c ≡ Refused → counted fail used (thenRest (objects d) s (closed e c)) g ≡ fail
       go Refused j = refl
-      go (Objects m) j = over m (test m (leb m left) refl j)
+      go (Objects m) j = over m (over-left left m j)
 
 -- ---- what holds of every answer of a chain
 
@@ -165,8 +139,3 @@ module _ {R : Type 0} (fail : R) (P : R → Type 0) (never : P fail) where
   pub answered-all : (c : Count) (k : ℕ → R) → ((n : ℕ) → P (k n)) → P (answered fail c k)
   answered-all Refused k h = never
   answered-all (Objects n) k h = h n
-
--- ---- a list with nothing in it
-
-pub none-counts : (d : ℕ) (s : List ℕ) → length s ≡ 0 → objects d s ≡ Objects 0
-none-counts d s h = rw (objects-are d s, eq-eqb (length s) 0 h)

@@ -8,9 +8,9 @@ use lib.Dec.{leb, ltb, eqb}
 use native.Mathlib.Omega.{arith}
 use lib.ListN.{length, drop, length-drop}
 use lib.Seq.{length-take-le}
-use borrow.Author.Tests.{leb-true}
+use borrow.Author.Tests.{leb-true, eqb-true}
 use Rattle.laws.proofs.Bools.{of-both}
-use Rattle.objects.specs.Objects.{tagOf, tag2, lenOf, len1, len2, headerOf, labelled, placed, objectBy, closed, part, foundIn, tagged, alike}
+use Rattle.objects.specs.Objects.{tagOf, secondTagByte, lenOf, lengthAfter81, lengthAfter82, headerOf, labelled, placed, objectBy, closed, part, foundIn, tagged, alike}
 use Rattle.objects.specs.declared.Label.{Label}
 use Rattle.objects.specs.declared.Label.the-variants.{Tag, NoTag}
 use Rattle.objects.specs.declared.Extent.{Extent}
@@ -19,7 +19,6 @@ use Rattle.objects.specs.declared.Head.{Head}
 use Rattle.objects.specs.declared.Head.the-variants.{Header, NoHeader}
 use Rattle.objects.specs.declared.Count.{Count}
 use Rattle.objects.specs.declared.Count.the-variants.{Objects, Refused}
-use Rattle.objects.specs.declared.Found.{Found}
 use Rattle.objects.specs.declared.Found.the-variants.{Content, Missing}
 use Rattle.objects.specs.declared.One.{One}
 use Rattle.objects.specs.declared.One.the-variants.{Object, NoObject}
@@ -39,33 +38,33 @@ tag-sizes (tag-of k p q) = (p, q)
 pub len-sizes : {n l k : ℕ} → LenIn n (Len l k) → (0 < k) × (k ≤ n)
 len-sizes (len-of k p q) = (p, q)
 
-tag2-in : (a : ℕ) (s : List ℕ) → TagIn (suc (length s)) (tag2 a s)
-unfolding tag2
-tag2-in a [] = no-tag
-tag2-in a (b ∷ s) = of-both (TagIn _) (leb 31 b && leb b 127) (tag-of 2 (omega arith) (omega arith)) no-tag
+second-in : (a : ℕ) (s : List ℕ) → TagIn (suc (length s)) (secondTagByte a s)
+unfolding secondTagByte
+second-in a [] = no-tag
+second-in a (b ∷ s) = of-both (TagIn _) (leb 0x1F b && leb b 0x7F) (tag-of 2 (omega arith) (omega arith)) no-tag
 
 pub tag-in : (s : List ℕ) → TagIn (length s) (tagOf s)
 unfolding tagOf
 tag-in [] = no-tag
-tag-in (a ∷ s) = of-both (TagIn _) (eqb (a % 32) 31) (tag2-in a s) (tag-of 1 (omega arith) (omega arith))
+tag-in (a ∷ s) = of-both (TagIn _) (eqb (a % 0x20) 0x1F) (second-in a s) (tag-of 1 (omega arith) (omega arith))
 
-len1-in : (s : List ℕ) → LenIn (suc (length s)) (len1 s)
-unfolding len1
-len1-in [] = no-len
-len1-in (b ∷ s) = of-both (LenIn _) (leb 128 b) (len-of 2 (omega arith) (omega arith)) no-len
+after-81-in : (s : List ℕ) → LenIn (suc (length s)) (lengthAfter81 s)
+unfolding lengthAfter81
+after-81-in [] = no-len
+after-81-in (b ∷ s) = of-both (LenIn _) (leb 128 b) (len-of 2 (omega arith) (omega arith)) no-len
 
-len2-in : (s : List ℕ) → LenIn (suc (length s)) (len2 s)
-unfolding len2
-len2-in [] = no-len
-len2-in (b ∷ []) = no-len
-len2-in (b ∷ c ∷ s) = of-both (LenIn _) (leb 256 (b * 256 + c)) (len-of 3 (omega arith) (omega arith)) no-len
+after-82-in : (s : List ℕ) → LenIn (suc (length s)) (lengthAfter82 s)
+unfolding lengthAfter82
+after-82-in [] = no-len
+after-82-in (b ∷ []) = no-len
+after-82-in (b ∷ c ∷ s) = of-both (LenIn _) (leb 256 (b * 256 + c)) (len-of 3 (omega arith) (omega arith)) no-len
 
 pub len-in : (s : List ℕ) → LenIn (length s) (lenOf s)
 unfolding lenOf
 len-in [] = no-len
 len-in (a ∷ s) =
     of-both (LenIn _) (ltb a 128) (len-of 1 (omega arith) (omega arith))
-    (of-both (LenIn _) (eqb a 129) (len1-in s) (of-both (LenIn _) (eqb a 130) (len2-in s) no-len))
+    (of-both (LenIn _) (eqb a 0x81) (after-81-in s) (of-both (LenIn _) (eqb a 0x82) (after-82-in s) no-len))
 
 -- a header of two bytes or more, and a content that ends within n
 pub data HeadIn (n : ℕ) : Head → Type 0 where
@@ -120,23 +119,26 @@ object-in inner d s = go (headerOf s) (header-in s)
 pub part-length : (a e : ℕ) (s : List ℕ) → a ≤ e → e ≤ length s → length (part a e s) ≡ e - a
 part-length a e s p q = length-take-le (e - a) (drop a s) (simp length-drop (omega arith))
 
--- ---- a field that was found
+-- ---- an object that was found is one with that header
 
-pub data FoundIn (n : ℕ) : Found → Type 0 where
-  missing : FoundIn n Missing
-  content-of : {a e : ℕ} → 1 < a → a ≤ e → e ≤ n → FoundIn n (Content a e)
-
-found-in : (t : ℕ) (w : Bool) (s : List ℕ) → FoundIn (length s) (foundIn t w s)
+pub found-header : (t : ℕ) (w : Bool) (s : List ℕ) (a e : ℕ) → foundIn t w s ≡ Content a e → headerOf s ≡ Header t w a e
 unfolding foundIn
-found-in t w s = go (headerOf s) (header-in s)
+found-header t w s a e p = go (headerOf s) p
   where
-    go : (h : Head) → HeadIn (length s) h → FoundIn (length s) (tagged t w h)
-    go NoHeader h = missing
-    go (Header u b a e) (header-of p q r) = of-both (FoundIn (length s)) (eqb u t && alike b w) (content-of p q r) missing
+    kind : (b v : Bool) (x y : ℕ) → cond (alike b v) (Content x y) Missing ≡ Content a e → (b ≡ v) × (x ≡ a) × (y ≡ e)
+    kind true true x y q = (refl, cc, cc)
+    kind false false x y q = (refl, cc, cc)
+    kind true false x y q = absurd (let z : _≡_ {A = ℕ} 0 1 = cc in omega arith)
+    kind false true x y q = absurd (let z : _≡_ {A = ℕ} 0 1 = cc in omega arith)
 
-content-sizes : {n a e : ℕ} → FoundIn n (Content a e) → (1 < a) × (a ≤ e) × (e ≤ n)
-content-sizes (content-of p q r) = (p, q, r)
+    tag : (u x y : ℕ) (b f : Bool) → eqb u t ≡ f → cond (f && alike b w) (Content x y) Missing ≡ Content a e → Header u b x y ≡ Header t w a e
+    tag u x y b true i q = let k = kind b w x y q in let j = eqb-true u t i in cc
+    tag u x y b false i q = absurd (let z : _≡_ {A = ℕ} 0 1 = cc in omega arith)
+
+    go : (h : Head) → tagged t w h ≡ Content a e → h ≡ Header t w a e
+    go NoHeader q = absurd (let z : _≡_ {A = ℕ} 0 1 = cc in omega arith)
+    go (Header u b x y) q = tag u x y b (eqb u t) refl q
 
 -- what a caller of `find` knows of an answer
 pub found-sizes : (t : ℕ) (w : Bool) (s : List ℕ) (a e : ℕ) → foundIn t w s ≡ Content a e → (1 < a) × (a ≤ e) × (e ≤ length s)
-found-sizes t w s a e p = content-sizes (subst (FoundIn (length s)) p (found-in t w s))
+found-sizes t w s a e p = head-sizes (subst (HeadIn (length s)) (found-header t w s a e p) (header-in s))

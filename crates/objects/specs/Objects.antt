@@ -22,32 +22,32 @@ use Rattle.objects.specs.declared.Found.the-variants.{Content, Missing}
 
 -- bit 20 (hex) of a tag's first byte: objects are nested
 abbrev pub nestBit : ℕ → Bool
-nestBit a = eqb (a / 32 % 2) 1
+nestBit a = eqb (a / 0x20 % 2) 1
 
 -- a tag of two bytes: the second is 1F..7F
-unfoldable pub tag2 : ℕ → List ℕ → Label
-tag2 a [] = NoTag
-tag2 a (b ∷ s) = cond (leb 31 b && leb b 127) (Tag (a * 256 + b) (nestBit a) 2) NoTag
+unfoldable pub secondTagByte : ℕ → List ℕ → Label
+secondTagByte a [] = NoTag
+secondTagByte a (b ∷ s) = cond (leb 0x1F b && leb b 0x7F) (Tag (a * 256 + b) (nestBit a) 2) NoTag
 
 -- two bytes if the first's low five bits are ones
 unfoldable pub tagOf : List ℕ → Label
 tagOf [] = NoTag
-tagOf (a ∷ s) = cond (eqb (a % 32) 31) (tag2 a s) (Tag a (nestBit a) 1)
+tagOf (a ∷ s) = cond (eqb (a % 0x20) 0x1F) (secondTagByte a s) (Tag a (nestBit a) 1)
 
 -- after 81: 128..255
-unfoldable pub len1 : List ℕ → Extent
-len1 [] = NoLen
-len1 (b ∷ s) = cond (leb 128 b) (Len b 2) NoLen
+unfoldable pub lengthAfter81 : List ℕ → Extent
+lengthAfter81 [] = NoLen
+lengthAfter81 (b ∷ s) = cond (leb 128 b) (Len b 2) NoLen
 
 -- after 82: 256 and more
-unfoldable pub len2 : List ℕ → Extent
-len2 [] = NoLen
-len2 (b ∷ []) = NoLen
-len2 (b ∷ c ∷ s) = cond (leb 256 (b * 256 + c)) (Len (b * 256 + c) 3) NoLen
+unfoldable pub lengthAfter82 : List ℕ → Extent
+lengthAfter82 [] = NoLen
+lengthAfter82 (b ∷ []) = NoLen
+lengthAfter82 (b ∷ c ∷ s) = cond (leb 256 (b * 256 + c)) (Len (b * 256 + c) 3) NoLen
 
 unfoldable pub lenOf : List ℕ → Extent
 lenOf [] = NoLen
-lenOf (a ∷ s) = cond (ltb a 128) (Len a 1) (cond (eqb a 0x81) (len1 s) (cond (eqb a 0x82) (len2 s) NoLen))
+lenOf (a ∷ s) = cond (ltb a 128) (Len a 1) (cond (eqb a 0x81) (lengthAfter81 s) (cond (eqb a 0x82) (lengthAfter82 s) NoLen))
 
 -- tag, then length, then that many bytes of content, from start up to end
 abbrev pub placed : ℕ → Bool → ℕ → Extent → List ℕ → Head

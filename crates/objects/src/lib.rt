@@ -50,16 +50,16 @@ fn tag_at(s: &[u8]) -> Label
         return Label::NoTag;
     }
     let a = s[0] as u16;
-    let nests = a / 32 % 2 == 1;
-    if a % 32 == 31 {
+    let nests = a / 0x20 % 2 == 1;
+    if a % 0x20 == 0x1F {
         if s.len() == 1 {
             return Label::NoTag;
         }
         let b = s[1] as u16;
-        if b < 31 {
+        if b < 0x1F {
             return Label::NoTag;
         }
-        if 127 < b {
+        if 0x7F < b {
             return Label::NoTag;
         }
         Label::Tag {
@@ -86,7 +86,7 @@ fn len_at(s: &[u8]) -> Extent
     if a < 128 {
         return Extent::Len { len: a, size: 1 };
     }
-    if a == 129 {
+    if a == 0x81 {
         if s.len() < 2 {
             return Extent::NoLen;
         }
@@ -96,7 +96,7 @@ fn len_at(s: &[u8]) -> Extent
         }
         return Extent::Len { len: b, size: 2 };
     }
-    if a == 130 {
+    if a == 0x82 {
         if s.len() < 3 {
             return Extent::NoLen;
         }
@@ -132,8 +132,8 @@ fn header_at(s: &[u8]) -> Head
 }
 
 // The object at the start of s, with so many levels of nests below it, at the cost of at most left objects.
-fn read_object(s: &[u8], depth: usize, left: usize) -> One
-    ensures { λ r. ⌜ r ≡ withinOne left (object depth (now (s .entry))) ⌝ }
+fn read_object(s: &[u8], below: usize, left: usize) -> One
+    ensures { λ r. ⌜ r ≡ withinOne left (object below (now (s .entry))) ⌝ }
 {
     if left == 0 {
         return One::NoObject;
@@ -148,10 +148,10 @@ fn read_object(s: &[u8], depth: usize, left: usize) -> One
         return One::NoObject;
     };
     if nests {
-        if depth == 0 {
+        if below == 0 {
             return One::NoObject;
         }
-        let Count::Objects(n) = read_list(&s[start..end], depth - 1, left - 1) else {
+        let Count::Objects(n) = read_list(&s[start..end], below - 1, left - 1) else {
             return One::NoObject;
         };
         One::Object {
@@ -164,16 +164,16 @@ fn read_object(s: &[u8], depth: usize, left: usize) -> One
 }
 
 // The objects of a list, with so many levels of nests below it, at the cost of at most left objects.
-pub fn read_list(s: &[u8], depth: usize, left: usize) -> Count
-    ensures { λ r. ⌜ r ≡ within left (objects depth (now (s .entry))) ⌝ }
+pub fn read_list(s: &[u8], below: usize, left: usize) -> Count
+    ensures { λ r. ⌜ r ≡ within left (objects below (now (s .entry))) ⌝ }
 {
     if s.len() == 0 {
         return Count::Objects(0);
     }
-    let One::Object { end, count } = read_object(s, depth, left) else {
+    let One::Object { end, count } = read_object(s, below, left) else {
         return Count::Refused;
     };
-    let Count::Objects(n) = read_list(&s[end..], depth, left - count) else {
+    let Count::Objects(n) = read_list(&s[end..], below, left - count) else {
         return Count::Refused;
     };
     Count::Objects(count + n)

@@ -7,8 +7,8 @@ use Rattle.objects.specs.Objects.{objects, within, objectsIn, foundIn}
 use Rattle.objects.specs.declared.Count.{Count}
 use Rattle.objects.specs.declared.Found.{Found}
 
-pub read-list-pinned : (s : List ℕ) (depth left : ℕ) → Pinned Count (within left (objects depth s))
-read-list-pinned s depth left = pinned _
+pub read-list-pinned : (s : List ℕ) (below left : ℕ) → Pinned Count (within left (objects below s))
+read-list-pinned s below left = pinned _
 
 pub read-objects-pinned : (s : List ℕ) → Pinned Count (objectsIn s)
 read-objects-pinned s = pinned _

@@ -1,6 +1,5 @@
 -- What the tests of a certificate say of its definitions. Assumes nothing.
 use borrow.Author.Needs.{needs}
-use Prim.Native.Nat.{_-_}
 use mathlib.Core.Path.{_≡_}
 use mathlib.Core.Bool.{Bool, true, false, not, _&&_}
 use Rattle.names.specs.Names.{noName, nameFits}

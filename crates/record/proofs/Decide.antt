@@ -19,7 +19,7 @@ use Rattle.status.specs.declared.Word.the-variants.{Outside as W6F00}
 use Rattle.command.specs.declared.kind.Kind.the-variants.{Read as KindRead}
 use Rattle.command.specs.declared.Shape.{Shape}
 use Rattle.command.specs.declared.Shape.the-variants.{Command}
-use Rattle.command.specs.Form.{formOf, afterHeader, bodyOf, extendedOf}
+use Rattle.command.specs.Form.{formOf, afterHeader, afterFour, extendedOf}
 use Rattle.command.specs.Kind.{kindOf}
 use Rattle.command.specs.Shape.{shapeOf, headedOf}
 use Rattle.command.specs.declared.kind.Lookup.the-variants.{For}
@@ -118,7 +118,7 @@ module _ (n : ℕ) (lo : 1 ≤ n) (hi : n ≤ 21) where
       rw (le-ltb (0x80 + n) 0x81 (omega arith), le-ltb 0x95 (0x80 + n) (omega arith), e)
 
   read-shape : {s : List ℕ} → ReadOf n s → shapeOf s ≡ Command (KindRead n) false 4 4
-  unfolding shapeOf formOf afterHeader bodyOf extendedOf headedOf
+  unfolding shapeOf formOf afterHeader afterFour extendedOf headedOf
   read-shape (short p2 le) = rw (read-kind p2)
   read-shape (extended p2 high low) = rw (read-kind p2)
 

@@ -10,8 +10,7 @@ use lib.Arith.{digits-div, digits-mod, mod-mul}
 use lib.Pow.{pow-pos, field, mod-mod-pow}
 use lib.Bits.{bitAnd, and-step, and-shr, and-mod, and-high, and-mask}
 use lib.Dec.{eqb}
-use Rattle.strings.specs.Bytes.{among}
-use Rattle.rights.specs.Rights.{low, hasBit, hasRight, andOf, common, groupMask, readsGroup}
+use Rattle.rights.specs.Rights.{low, hasBit, hasRight, andOf, common, isGroup, groupMask, readsGroup}
 use Rattle.rights.specs.declared.Rights.{Rights}
 
 min-small : (a b : ℕ) → min (a % 2) (b % 2) < 2
@@ -106,7 +105,7 @@ no-mask x = rw (and-mask x 0) (mod-one x)
 -- a group's mask finds the group's right, and finds nothing outside 1..21
 pub group-test : (r : Rights) (n m : ℕ) → m ≡ groupMask n → not (eqb (bitAnd (r .0) m) 0) ≡ readsGroup r n
 unfolding groupMask readsGroup
-group-test r n m e = rw e (go (among 1 21 n))
+group-test r n m e = rw e (go (isGroup n))
   where
     go : (b : Bool) → not (eqb (bitAnd (r .0) (cond b (2 ^ (7 + n)) 0)) 0) ≡ b && hasRight (7 + n) r
     go true = mask-test (r .0) (7 + n)

@@ -37,11 +37,11 @@ abbrev pub template : List ℕ
 template = 0x06 ∷ 9 ∷ 0x04 ∷ 0x00 ∷ 0x7F ∷ 0x00 ∷ 0x07 ∷ 0x03 ∷ 0x01 ∷ 0x02 ∷ 0x02 ∷ 0x53 ∷ 5 ∷ []
 
 unfoldable pub isRights : List ℕ → Bool
-isRights c = eqb (length c) 18 && eqbs (take 13 c) template
+isRights c = eqb (length c) (length template + 5) && eqbs (take (length template) c) template
 
 -- highest first; of bytes the five are never more than the width, and of other numbers they are cut to it
 abbrev pub rightsOf : List ℕ → ℕ
-rightsOf c = number 256 0 (drop 13 c) % 2 ^ width
+rightsOf c = number 256 0 (drop (length template) c) % 2 ^ width
 
 unfoldable pub granted : List ℕ → Granted
 granted c = cond (isRights c) (These (record { 0 = rightsOf c })) NoRights
@@ -65,8 +65,11 @@ unfoldable pub common : Rights → Rights → Rights → Rights → Rights
 common a b c d = record { 0 = andOf low (andOf low (andOf low (a .0) (b .0)) (c .0)) (d .0) }
 
 -- "Bit 7+n reads group n, 1..21"
+abbrev pub isGroup : ℕ → Bool
+isGroup n = among 1 21 n
+
 unfoldable pub groupMask : ℕ → ℕ
-groupMask n = cond (among 1 21 n) (2 ^ (7 + n)) 0
+groupMask n = cond (isGroup n) (2 ^ (7 + n)) 0
 
 unfoldable pub readsGroup : Rights → ℕ → Bool
-readsGroup r n = among 1 21 n && hasRight (7 + n) r
+readsGroup r n = isGroup n && hasRight (7 + n) r

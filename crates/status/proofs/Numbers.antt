@@ -1,5 +1,5 @@
 -- A word's number, arm by arm. Assumes nothing.
-use Prim.Native.Nat.{ℕ, _-_}
+use Prim.Native.Nat.{ℕ}
 use mathlib.Core.Path.{_≡_, sym, ap, _∙_}
 use Rattle.status.specs.Words.{number as numberOf}
 use Rattle.status.specs.declared.Word.{Word}

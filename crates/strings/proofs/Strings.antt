@@ -5,12 +5,12 @@ use native.Mathlib.Numerals.{add-one}
 use mathlib.Core.Path.{_≡_, refl, sym, ap, _∙_}
 use mathlib.Core.Bool.{Bool, true, false, not}
 use mathlib.Core.List.{List, [], _∷_}
-use borrow.Author.Tests.{eq-eqb, ne-eqb, eqb-true, not-true, not-false}
-use lib.Dec.{eqb}
+use borrow.Author.Tests.{eq-eqb, ne-eqb, eqb-true, leb-true, le-leb, lt-leb, not-true, not-false}
+use lib.Dec.{eqb, leb}
 use lib.ListN.{length, take, drop, getD}
 use lib.Seq.{drop-cons, take-append-le, take-all}
 use Rattle.laws.proofs.Bools.{true-false, and-l, and-r, and-no}
-use Rattle.strings.specs.Bytes.{eqbs, belongsTo, allOf, copiedInto}
+use Rattle.strings.specs.Bytes.{eqbs, among, belongsTo, allOf, copiedInto}
 use Rattle.strings.specs.declared.Class.{Class}
 
 -- ---- two byte strings are the same
@@ -38,6 +38,24 @@ eqbs-true (x ∷ xs) (y ∷ ys) e = let p = eqb-true x y (and-l (eqb x y) (eqbs 
 pub eqbs-refl : (a : List ℕ) → eqbs a a ≡ true
 eqbs-refl [] = refl
 eqbs-refl (x ∷ xs) = rw (eq-eqb x x refl) (eqbs-refl xs)
+
+-- ---- a number from a to e
+
+module _ (a e c : ℕ) where
+  pub among-low : among a e c ≡ true → a ≤ c
+  among-low h = leb-true a c (and-l (leb a c) (leb c e) h)
+
+  pub among-high : among a e c ≡ true → c ≤ e
+  among-high h = leb-true c e (and-r (leb a c) (leb c e) h)
+
+  pub among-in : a ≤ c → c ≤ e → among a e c ≡ true
+  among-in h k = rw (le-leb a c h, le-leb c e k)
+
+  pub among-under : c < a → among a e c ≡ false
+  among-under h = rw (lt-leb a c h)
+
+  pub among-over : e < c → among a e c ≡ false
+  among-over h = and-no (leb a c) (leb c e) (lt-leb c e h)
 
 -- ---- all bytes belong to a class
 

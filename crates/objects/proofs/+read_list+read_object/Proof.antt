@@ -8,7 +8,6 @@ use mathlib.Core.List.{List}
 use lib.Dec.{leb·zero}
 use lib.ListN.{length, drop}
 use borrow.Author.Needs.{needs}
-use borrow.Author.Tests.{eq-eqb}
 use borrow.Fn.Kinds.{In, Out}
 use borrow.Fn.PlainCycle.{Measures, is, falls, and}
 use Rattle.objects.specs.Objects.{headerOf, object, objects, closed, plus, within, withinOne}
@@ -16,7 +15,7 @@ use Rattle.objects.specs.declared.Head.the-variants.{Header}
 use Rattle.objects.specs.declared.One.the-variants.{Object}
 use Rattle.laws.proofs.Lists.{from}
 use Rattle.objects.proofs.Sizes.{HeadIn, OneIn, head-sizes, header-in, one-sizes, object-in}
-use Rattle.objects.proofs.Fuel.{objects-are}
+use Rattle.objects.proofs.Fuel.{objects-none}
 use Rattle.objects.proofs.Counts.{none-left, kept, kept-count, list-refused, list-is, flat-is, deep-is, nest-is}
 use Rattle.objects.proofs.read_list.Reads as list
 use Rattle.objects.proofs.read_list.Kinds as list-kinds
@@ -68,7 +67,7 @@ module _ (t : ℕ) where
   abbrev count : L list-lts.After-end → ℕ
   count c = c .end .given .0 .1 .0
 
-  first : (c : L list-lts.After-end) → (object (in-list c .args .depth) (src c) ≡ Object (end c) (count c)) × (count c ≤ in-list c .args .left)
+  first : (c : L list-lts.After-end) → (object (in-list c .args .below) (src c) ≡ Object (end c) (count c)) × (count c ≤ in-list c .args .left)
   first c = kept _ _ _ _ (sym (c .before .before .read-object .ensures) ∙ c .end .given .1)
 
   sizes : (c : L list-lts.After-end) → (0 < count c) × (0 < end c) × (end c ≤ length (src c))
@@ -80,11 +79,11 @@ module _ (t : ℕ) where
   before-rest c = c .before .before .before
 
   rest : (c : L list-lts.After-read-list) → (let o = before-rest c in
-      within (in-list o .args .left - count o) (objects (in-list o .args .depth) (drop (end o) (src o))) ≡ c .read-list .result)
+      within (in-list o .args .left - count o) (objects (in-list o .args .below) (drop (end o) (src o))) ≡ c .read-list .result)
   rest c = let o = before-rest c in rw (← from (src o) (end o)) (sym (c .read-list .ensures))
 
   whole : (c : L list-lts.After-read-list) → (let o = before-rest c in
-      within (in-list o .args .left) (objects (in-list o .args .depth) (src o)) ≡ plus (count o) (c .read-list .result))
+      within (in-list o .args .left) (objects (in-list o .args .below) (src o)) ≡ plus (count o) (c .read-list .result))
   whole c =
       let o = before-rest c in
       list-is _ _ _ _ _ (o .before .before .before .if1 .left) (first o .0) (first o .1) ∙ ap (plus (count o)) (rest c)
@@ -120,7 +119,7 @@ module _ (t : ℕ) where
   before-content c = c .before .before .before .before .before
 
   nest : (c : O object-lts.After-read-list) → (let o = before-content c in
-      withinOne (in-object o .args .left) (object (in-object o .args .depth) (bytes o)) ≡ closed (stop o) (c .read-list .result))
+      withinOne (in-object o .args .left) (object (in-object o .args .below) (bytes o)) ≡ closed (stop o) (c .read-list .result))
   nest c =
       let o = before-content c in
       let some : 0 < in-object o .args .left = omega arith in
@@ -139,7 +138,7 @@ unfolding object
 +read-list+read-object-spec =
     close μ-list μ-object
     (λ t. list-lts.spec (object-below t, object-reads.Post, list-below t, list.Post) (list-at t) list.Post
-    (λ c. rw (objects-are _ _) (simp (eq-eqb _ _ (c .if1 .taken), leb·zero (c .before .before .args .left))))
+    (λ c. rw (objects-none _ _ (c .if1 .taken)) (simp (leb·zero (c .before .before .args .left))))
     (λ c κs. (omega arith, tt))
     (λ c. search needs)
     (λ c. search needs)

@@ -8,13 +8,13 @@ use lib.ListN.{length, drop, length-drop}
 use borrow.Author.Needs.{needs}
 use borrow.Author.Tests.{eq-eqb, ne-eqb, le-leb, lt-leb, le-ltb, lt-ltb}
 use Rattle.objects.specs.declared.Extent.the-variants.{NoLen}
-use Rattle.objects.specs.Objects.{lenOf, len1, len2}
+use Rattle.objects.specs.Objects.{lenOf, lengthAfter81, lengthAfter82}
 use Rattle.laws.proofs.Lists.{none, one, two, just-one, three}
 use Rattle.objects.proofs.len_at.Statement.{statement}
 use Rattle.objects.proofs.len_at.Tie as tie
 
-short : (s : List ℕ) → length s < 2 → len2 s ≡ NoLen
-unfolding len2
+short : (s : List ℕ) → length s < 2 → lengthAfter82 s ≡ NoLen
+unfolding lengthAfter82
 short [] h = refl
 short (b ∷ []) h = refl
 short (b ∷ c ∷ s) h = absurd (omega arith)
@@ -27,7 +27,7 @@ abbrev s2 : tie.Else3 → List ℕ
 s2 c = s1 (c .before)
 
 pub len-at-spec : {M : Type 1} → statement M
-unfolding lenOf len1 len2
+unfolding lenOf lengthAfter81 lengthAfter82
 len-at-spec =
     tie.close
     (tie.spec

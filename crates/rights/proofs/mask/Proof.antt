@@ -1,15 +1,14 @@
 -- `rights::mask` meets its contract: the table is checked against the formula once. Assumes nothing.
 use Prim.Native.Nat.{ℕ, _+_, _-_, _^_, _<_, _≤_}
-use mathlib.Core.Path.{_≡_, refl, ap, _∙_}
+use mathlib.Core.Path.{_≡_, ap, _∙_}
 use mathlib.Core.List.{List, [], _∷_}
-use mathlib.Core.Bool.{Bool, false}
+use mathlib.Core.Bool.{Bool}
 use native.Mathlib.Omega.{arith}
 use borrow.Author.Needs.{needs}
-use borrow.Author.Tests.{le-leb, lt-leb}
-use lib.Dec.{eqb, leb, eqb→eq}
+use lib.Dec.{eqb, eqb→eq}
 use lib.ListN.{getD}
-use Rattle.laws.proofs.Bools.{and-no}
 use Rattle.laws.proofs.Tables.{at}
+use Rattle.strings.proofs.Strings.{among-in, among-under, among-over}
 use Rattle.rights.specs.Rights.{groupMask}
 use Rattle.rights.proofs.mask.Statement.{statement}
 use Rattle.rights.proofs.mask.Tie as tie
@@ -22,17 +21,17 @@ right k x = eqb x (2 ^ (8 + k))
 
 none-below : (n : ℕ) → n < 1 → 0 ≡ groupMask n
 unfolding groupMask
-none-below n h = rw (lt-leb 1 n h)
+none-below n h = rw (among-under 1 21 n h)
 
 none-above : (n : ℕ) → 21 < n → 0 ≡ groupMask n
 unfolding groupMask
-none-above n h = rw (lt-leb n 21 h, and-no (leb 1 n) false refl)
+none-above n h = rw (among-over 1 21 n h)
 
 in-table : (n : ℕ) → 1 ≤ n → n ≤ 21 → getD masks (n - 1) 0 ≡ groupMask n
 unfolding masks right groupMask
 in-table n h l =
     let e : 8 + (n - 1) ≡ 7 + n = omega arith in
-    rw (le-leb 1 n h, le-leb n 21 l) (eqb→eq (getD masks (n - 1) 0) (2 ^ (8 + (n - 1))) (at right masks tt (n - 1) (omega arith)) ∙ ap (λ (k : ℕ). 2 ^ k) e)
+    rw (among-in 1 21 n h l) (eqb→eq (getD masks (n - 1) 0) (2 ^ (8 + (n - 1))) (at right masks tt (n - 1) (omega arith)) ∙ ap (λ (k : ℕ). 2 ^ k) e)
 
 pub mask-spec : {M : Type 1} → statement M
 unfolding masks

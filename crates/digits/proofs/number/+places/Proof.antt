@@ -1,7 +1,6 @@
 -- `digits::number::places` meets its contract. Assumes nothing.
 use Prim.Native.Nat.{ℕ, _<_}
 use native.Mathlib.Omega.{arith}
-use borrow.Author.Needs.{needs}
 use borrow.Fn.Kinds.{In}
 use borrow.Fn.PlainCycle.{Measures, is, falls, and}
 use Rattle.digits.proofs.Digits.{places-end, places-one, places-more}

@@ -1,17 +1,17 @@
 -- `digits::number::read_number` meets its contract: what is left of the word decides. Assumes nothing.
 use Prim.Native.Nat.{_≤_, _<_, _-_}
-use mathlib.Core.Path.{_≡_, refl, sym, _∙_}
+use mathlib.Core.Path.{_≡_, refl}
 use native.Mathlib.Omega.{arith}
 use borrow.Author.Needs.{needs}
 use lib.ListN.{length, drop}
-use Rattle.digits.specs.Digits.{following}
+use Rattle.digits.specs.Digits.{largest, following}
 use Rattle.digits.proofs.Digits.{base-some}
-use Rattle.digits.proofs.Numbers.{most, read-none, end-read, off-read, over-read, on-read, grown-most}
+use Rattle.digits.proofs.Numbers.{read-none, end-read, off-read, over-read, on-read, grown-most}
 use Rattle.digits.proofs.number.read_number.Statement.{statement}
 use Rattle.digits.proofs.number.read_number.Tie as tie
 
 abbrev Inv-loop : tie.InvT-loop
-Inv-loop s base n₀ i₀ n i = (i ≤ length s) × (0 < base) × (n ≤ most) × (following base 0 s ≡ following base n (drop i s))
+Inv-loop s base n₀ i₀ n i = (i ≤ length s) × (0 < base) × (n ≤ largest) × (following base 0 s ≡ following base n (drop i s))
 
 abbrev μ-loop : tie.MeasureT-loop
 μ-loop s base n₀ i₀ n i = length s - i

@@ -1,5 +1,6 @@
 -- `digits::number::worth` meets its contract. Assumes nothing.
-use Rattle.digits.proofs.Digits.{among-low, upper-less, lower-less, worth-number, worth-upper, worth-lower, worth-none}
+use Rattle.strings.proofs.Strings.{among-low}
+use Rattle.digits.proofs.Digits.{upper-less, lower-less, worth-number, worth-upper, worth-lower, worth-none}
 use Rattle.digits.proofs.number.worth.Statement.{statement}
 use Rattle.digits.proofs.number.worth.Tie as tie
 
