@@ -1,22 +1,22 @@
 -- Characters and the digits that they are. Assumes nothing.
-use Prim.Native.Nat.{ℕ, zero, suc, _+_, _-_, _*_, _/_, _%_, _≤_, _<_}
+use Prim.Native.Nat.{ℕ, zero, suc, _+_, _-_, _/_, _%_, _≤_, _<_}
 use mathlib.Core.Path.{_≡_, refl, sym, ap, _∙_}
-use mathlib.Core.Bool.{Bool, true, false, not, _&&_}
-use mathlib.Core.List.{List, [], _∷_, _++_}
+use mathlib.Core.Bool.{Bool, true, false, not}
+use mathlib.Core.List.{List, [], _∷_}
 use native.Mathlib.Numerals.{add-one}
 use native.Mathlib.Omega.{arith}
-use lib.Dec.{leb, ltb}
+use lib.Dec.{leb}
 use lib.ListN.{length, drop, getD, set, length-append}
 use lib.Seq.{drop-cons}
 use borrow.Author.Tests.{leb-true, lt-ltb, le-ltb, not-true, not-false}
 use Rattle.laws.proofs.Bools.{and-l, and-r}
 use Rattle.strings.specs.Bytes.{among}
-use Rattle.reply.specs.Lay.{over, Put}
-use Rattle.text.specs.Room.{fitting}
+use Rattle.buffers.specs.Lay.{over, Put}
+use Rattle.buffers.specs.Room.{fitting}
+use Rattle.buffers.proofs.Laying.{over-back, placed, unplaced}
 use Rattle.digits.specs.declared.number.Radix.{Radix}
 use Rattle.digits.specs.declared.number.Radix.the-variants.{Ten, Sixteen}
 use Rattle.digits.specs.Digits.{baseOf, glyph, worth, isDigit, digits, places, decimal, allDigits}
-use Rattle.text.proofs.Laying.{over-back, placed, unplaced}
 
 pub base-some : (r : Radix) (b : ℕ) → b ≡ baseOf r → 0 < b
 base-some Ten b e = omega arith

@@ -60,6 +60,11 @@ take-min zero l = rw zero-min
 take-min (suc k) [] = rw min-zero
 take-min (suc k) (x ∷ xs) = rw (suc-min-suc k (length xs)) (ap (λ (r : List ℕ). x ∷ r) (take-min k xs))
 
+pub drop-min : (k : ℕ) (l : List ℕ) → drop (min k (length l)) l ≡ drop k l
+drop-min zero l = rw zero-min
+drop-min (suc k) [] = rw min-zero
+drop-min (suc k) (x ∷ xs) = rw (suc-min-suc k (length xs)) (drop-min k xs)
+
 module _ (l : List ℕ) (n k m : ℕ) (e : length l ≡ n) (h : m ≡ min k n) where
   pub clip-in : m ≤ length l
   clip-in = omega arith

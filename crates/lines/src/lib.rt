@@ -2,10 +2,10 @@
 ghost use Prim.Native.Nat.{_≤_};
 ghost use lib.ListN.{length};
 ghost use Rattle.laid.specs.Moves.{Moved};
+use buffers::put;
 use laid::Desk;
 use laid::Turn;
 use strings::clip;
-use text::put;
 use token::state::Token;
 use wording::body::body;
 use wording::verb::Verb;

@@ -20,7 +20,7 @@ use Rattle.objects.specs.Objects.{tag2, tagOf, len1, len2, lenOf, headerOf, obj
 use Rattle.record.specs.Entries.{prescribed, after}
 use Rattle.record.specs.Rule.{readable}
 use Rattle.reply.specs.Bytes.{lengthBytes, object as object·Bytes·reply}
-use Rattle.reply.specs.Lay.{over}
+use Rattle.buffers.specs.Lay.{over}
 use Rattle.reply.specs.Reply.{dataOf as dataOf·Reply·reply, replyOf}
 use Rattle.authorization.specs.Authorization.{sharedBy, authorization}
 use Rattle.bounds.specs.Bounds.{rootFits, dvFits, terminalFits, chainFits, groundFits, contextFits}

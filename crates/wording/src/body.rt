@@ -4,6 +4,7 @@ use super::labelled;
 use super::stated::string;
 use super::words::spaces;
 use super::words::word;
+use buffers::put;
 use certificate::Body;
 use certificate::Place;
 use certificate::read_body;
@@ -11,7 +12,6 @@ use names::Name;
 use points::Point;
 use status::Intake;
 use text::front;
-use text::put;
 
 // No extension stands at the start of a body.
 fn place(out: &mut [u8], at: usize, label: &[u8], p: Place) -> usize {

@@ -1,9 +1,9 @@
 // The words of a line, and the labels of a table.
 ghost use Prim.Native.Nat.{_≤_};
 ghost use lib.ListN.{length};
+use buffers::put;
 use text::find;
 use text::past;
-use text::put;
 
 // The place of part k, counted from 0, or the end.
 fn start(s: &[u8], k: usize, b: u8) -> usize

@@ -1,6 +1,6 @@
 -- `wording::words::part` is safe: what it answers is a part. Assumes nothing.
 use borrow.Author.Needs.{needs}
-use Rattle.text.proofs.Laying.{place-in, place-from}
+use Rattle.text.proofs.Finding.{place-in, place-from}
 use Rattle.wording.proofs.words.part.Statement.{statement}
 use Rattle.wording.proofs.words.part.Tie as tie
 

@@ -1,10 +1,10 @@
--- `worked::buffers::kept` is safe, and counts no more than there are. Assumes nothing.
+-- `worked::reply_buffers::kept` is safe, and counts no more than there are. Assumes nothing.
 use Prim.Native.Nat.{_≤_, _-_}
 use native.Mathlib.Omega.{arith}
 use lib.ListN.{length}
 use borrow.Author.Needs.{needs}
-use Rattle.worked.proofs.buffers.kept.Statement.{statement}
-use Rattle.worked.proofs.buffers.kept.Tie as tie
+use Rattle.worked.proofs.reply_buffers.kept.Statement.{statement}
+use Rattle.worked.proofs.reply_buffers.kept.Tie as tie
 
 abbrev Inv-loop : tie.InvT-loop
 Inv-loop s n₀ i₀ n i = (n ≤ i) × (i ≤ length s)
