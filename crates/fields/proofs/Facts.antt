@@ -36,6 +36,7 @@ use Rattle.command.specs.Shape.{shapeOf}
 use Rattle.command.specs.declared.kind.Kind.{Kind}
 use Rattle.command.specs.declared.kind.Kind.the-variants.{ChoosePassword, General as KindGeneral, SelectIssuer, VerifyCertificate, Announce as KindAnnounce, Challenge as KindChallenge, ProveTerminal, ChooseChipKey as KindChip, Read as KindRead, ChangePin as KindPin, Unblock as KindUnblock, Activate as KindActivate, Deactivate as KindDeactivate}
 use Rattle.command.specs.declared.Shape.{Shape}
+use Rattle.command.proofs.Groups.{GroupIn, ShapeIn, shape-in}
 use Rattle.command.specs.declared.Shape.the-variants.{Command, Faulty}
 use Rattle.fields.specs.Taking.{reading, lastly, isAll, sized, holds}
 use Rattle.fields.specs.Given.{only, bad, selecting, verifying, announcing}
@@ -54,7 +55,6 @@ use Rattle.fields.specs.declared.asked.Ask.{Ask}
 use Rattle.fields.specs.declared.asked.Ask.the-variants.{Bad, Choose, General, Select, Verify, Announce, Challenge, Prove, ChooseChipKey, Read, ChangePin, Unblock, Activate, Deactivate}
 use Rattle.fields.specs.declared.asked.Request.the-variants.{Asks}
 use Rattle.fields.specs.declared.given.Given.{Given}
-use Rattle.fields.proofs.Groups.{GroupIn, ShapeIn, shape-in}
 
 -- a kind, and what a command of that kind may ask
 pub data Of : Kind → Ask → Type 0 where
