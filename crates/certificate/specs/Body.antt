@@ -103,20 +103,20 @@ module _ (stop : ℕ) where
   unfoldable pub versionThen : List ℕ → Pending
   versionThen s = taken unread 0x5F29 false (λ c. eqbs c (0x00 ∷ [])) s (λ c e. issuerThen)
 
--- Body 7F4E, alone
-unfoldable pub wholeOf : List ℕ → Pending
-wholeOf s = taken unread 0x7F4E true any s (λ c e rest. ended rest (versionThen e c))
+-- Body 7F4E, and what must follow it
+unfoldable pub bodyThen : (List ℕ → Pending → Pending) → List ℕ → Pending
+bodyThen after s = taken unread 0x7F4E true any s (λ c e rest. after rest (versionThen e c))
 
--- readable within the depth and the allowance, and the fields fit
+-- 5F37 with a signature, and nothing after it
+abbrev pub signature : List ℕ → Pending → Pending
+signature s k = taken unread 0x5F37 false isSignature s (λ g f rest. ended rest k)
+
+-- readable within the depth and the allowance, and the fields fit: the body alone, or with its signature in one reading
 unfoldable pub bodyOf : List ℕ → Reading
-bodyOf s = answered unread (objectsIn s) (wholeOf s)
-
--- 7F4E, then 5F37 with a signature: one reading
-unfoldable pub signedWhole : List ℕ → Pending
-signedWhole s = taken unread 0x7F4E true any s (λ c e r. taken unread 0x5F37 false isSignature r (λ g f q. ended q (versionThen e c)))
+bodyOf s = answered unread (objectsIn s) (bodyThen ended s)
 
 unfoldable pub signedOf : List ℕ → Reading
-signedOf s = answered unread (objectsIn s) (signedWhole s)
+signedOf s = answered unread (objectsIn s) (bodyThen signature s)
 
 -- ---- as the code tests them
 

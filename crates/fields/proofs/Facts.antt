@@ -1,13 +1,12 @@
 -- What may be relied on of what a command asks: what is named is within document 01's limits, and kind and ask agree.
 -- Assumes nothing.
 use Prim.Native.Nat.{ℕ, _≤_}
-use native.Mathlib.Omega.{arith}
 use mathlib.Core.Path.{_≡_, refl, subst}
 use mathlib.Core.Bool.{Bool, true, false, cond, _&&_}
 use mathlib.Core.List.{List}
 use lib.Dec.{eqb}
 use lib.ListN.{length, drop, getD}
-use Rattle.laws.proofs.Bools.{of-both}
+use Rattle.laws.proofs.Bools.{true-false, of-both}
 use Rattle.objects.specs.Objects.{part, objectsIn, foundIn}
 use Rattle.objects.specs.Chain.{taken, any}
 use Rattle.objects.proofs.Chain.{taken-all, answered-all}
@@ -130,7 +129,7 @@ choose-sound : (c : Choice) → RightsIn c → Chooses (Choose c)
 choose-sound c h = only-sound ChoosePassword (Choose c) of-choose h
 
 no-rights : (c : Choice) → rightsNamed c ≡ NoRights → RightsIn c
-no-rights c e r f = absurd (let z : _≡_ {A = ℕ} 0 1 = cc in omega arith)
+no-rights c e r f = true-false cc
 
 these-rights : (c : Choice) (r : Rights) → rightsNamed c ≡ These r → rightsFit r ≡ true → RightsIn c
 these-rights c r e h q f = let i : r ≡ q = cc in subst (λ (x : Rights). rightsFit x ≡ true) i h
@@ -269,7 +268,7 @@ module _ (s : List ℕ) (k : Kind) (b : Bool) (x : Ask) (e : askedOf s .request 
   asked-sound = go (shapeOf s) (shape-in s) e
     where
       go : (h : Shape) → ShapeIn h → askedBy s h .request ≡ Asks k b x → Of k x × Within x (askedBy s h .name) (askedBy s h .point) (askedBy s h .key)
-      go (Faulty f) i q = absurd (let z : _≡_ {A = ℕ} 0 1 = cc in omega arith)
+      go (Faulty f) i q = true-false cc
       go (Command j c m n) i q =
           let g = data-sound j i (part m n s) in
           let u : j ≡ k = cc in

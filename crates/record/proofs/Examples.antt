@@ -1,5 +1,5 @@
 -- The short records, computed on both sides. Assumes nothing.
-use Rattle.certificate.specs.Body.{unread, isPublicKey, isSignature, extThen, lastThen, firstThen, rightsThen, ownThen, keyThen, issuerThen, versionThen, wholeOf, bodyOf, signedWhole, signedOf, keyObjects, isSigned}
+use Rattle.certificate.specs.Body.{unread, isPublicKey, isSignature, extThen, lastThen, firstThen, rightsThen, ownThen, keyThen, issuerThen, versionThen, bodyThen, bodyOf, signedOf, keyObjects, isSigned}
 use Rattle.command.specs.Form.{afterShort, afterLong, shortOf, longOf, extendedOf, bodyOf as bodyOf·Form·command, afterHeader, formOf}
 use Rattle.command.specs.Kind.{kindOf}
 use Rattle.command.specs.Shape.{headedOf, shapeOf}
@@ -46,5 +46,5 @@ use mathlib.Core.Path.{refl}
 use Rattle.record.specs.Worked.{AllWorked}
 
 pub all-worked : AllWorked
-unfolding unread isPublicKey isSignature extThen lastThen firstThen rightsThen ownThen keyThen issuerThen versionThen wholeOf bodyOf signedWhole signedOf keyObjects isSigned afterShort afterLong shortOf longOf extendedOf bodyOf·Form·command afterHeader formOf kindOf headedOf shapeOf settledBy awaitsBy wordOf endsBy passesBy judgedOf awaitedOf courseOf keyThen·Announce·fields auxiliaryThen terminalThen protocolThen announceOf dataOf refusing asking askedOf referenceIn chipOf chosenBy rightsThen·Choice·fields passwordThen protocolThen·Choice·fields choiceOf only selecting verifying announcing heldIn generalOf selectOf verified verifyOf proofOf pinOf reading lastly fitted lastOf holds counted taken tag2 tagOf len1 len2 lenOf headerOf objectsOf objects object objectsIn foundIn prescribed after readable lengthBytes object·Bytes·reply over dataOf·Reply·reply replyOf sharedBy authorization rootFits dvFits terminalFits chainFits groundFits contextFits momentOf noChain choiceTaken staged stepPassed opened runClosed trialLost issuerSelected linkTaken dvTaken terminalTaken announced unblocked unblockedByPuk activated afterOf selectPlan repeats late underCourse underPlan verifyPlan choosePlan runPlan chipPlan generalPlan announcePlan readPlan changePlan unblockPlan activePlan inLimits commandOf timedOf requestedOf guarded planOf resetOf startOf noToken madeOf layoutOf replyTo stepOf anchorFits onePoint twoPoints pointsFit knows found linked copiedInto isDate dayFits isDay dated before later isKey keyOf noKey keyIs keyFits keyStands isName nameOf noName nameFits sameName noPoint pointFits expired withKey rightsFit roleOf isRights granted andOf common groupMask readsGroup number
+unfolding unread isPublicKey isSignature extThen lastThen firstThen rightsThen ownThen keyThen issuerThen versionThen bodyThen bodyOf signedOf keyObjects isSigned afterShort afterLong shortOf longOf extendedOf bodyOf·Form·command afterHeader formOf kindOf headedOf shapeOf settledBy awaitsBy wordOf endsBy passesBy judgedOf awaitedOf courseOf keyThen·Announce·fields auxiliaryThen terminalThen protocolThen announceOf dataOf refusing asking askedOf referenceIn chipOf chosenBy rightsThen·Choice·fields passwordThen protocolThen·Choice·fields choiceOf only selecting verifying announcing heldIn generalOf selectOf verified verifyOf proofOf pinOf reading lastly fitted lastOf holds counted taken tag2 tagOf len1 len2 lenOf headerOf objectsOf objects object objectsIn foundIn prescribed after readable lengthBytes object·Bytes·reply over dataOf·Reply·reply replyOf sharedBy authorization rootFits dvFits terminalFits chainFits groundFits contextFits momentOf noChain choiceTaken staged stepPassed opened runClosed trialLost issuerSelected linkTaken dvTaken terminalTaken announced unblocked unblockedByPuk activated afterOf selectPlan repeats late underCourse underPlan verifyPlan choosePlan runPlan chipPlan generalPlan announcePlan readPlan changePlan unblockPlan activePlan inLimits commandOf timedOf requestedOf guarded planOf resetOf startOf noToken madeOf layoutOf replyTo stepOf anchorFits onePoint twoPoints pointsFit knows found linked copiedInto isDate dayFits isDay dated before later isKey keyOf noKey keyIs keyFits keyStands isName nameOf noName nameFits sameName noPoint pointFits expired withKey rightsFit roleOf isRights granted andOf common groupMask readsGroup number
 all-worked = ((refl, refl), (refl, refl), (refl, refl), (refl, refl), (refl, refl), (refl, refl), (refl, refl), (refl, refl))
