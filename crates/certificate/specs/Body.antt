@@ -49,12 +49,16 @@ placeOf stop s e = record { start = stop - length s; end = stop - length s + e }
 abbrev pub ended : List ℕ → Pending → Pending
 ended s k = cond (eqb (length s) 0) k (λ n. unread)
 
--- a public key starts with 06 and 04 00 7F 00 07 02 02 02 02 03
+-- the mechanism of terminal authentication: 04 00 7F 00 07 02 02 02 02 03
+abbrev pub taMechanism : List ℕ
+taMechanism = 0x04 ∷ 0x00 ∷ 0x7F ∷ 0x00 ∷ 0x07 ∷ 0x02 ∷ 0x02 ∷ 0x02 ∷ 0x02 ∷ 0x03 ∷ []
+
+-- a public key starts with 06 and that
 abbrev pub mechanism : List ℕ
-mechanism = 0x06 ∷ 10 ∷ 0x04 ∷ 0x00 ∷ 0x7F ∷ 0x00 ∷ 0x07 ∷ 0x02 ∷ 0x02 ∷ 0x02 ∷ 0x02 ∷ 0x03 ∷ []
+mechanism = 0x06 ∷ 10 ∷ taMechanism
 
 unfoldable pub isPublicKey : List ℕ → Bool
-isPublicKey c = eqbs (take 12 c) mechanism
+isPublicKey c = eqbs (take (length mechanism) c) mechanism
 
 -- "5F37 (1 to 256 bytes)"
 abbrev pub longestSignature : ℕ

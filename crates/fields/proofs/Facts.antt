@@ -27,7 +27,7 @@ use Rattle.rights.specs.declared.Granted.the-variants.{These, NoRights}
 use Rattle.run.specs.Run.{rightsNamed}
 use Rattle.run.specs.declared.Choice.{Choice}
 use Rattle.run.specs.declared.Choice.the-variants.{Mrz, Can, CanFor, Pin, PinFor, Puk}
-use Rattle.certificate.specs.Body.{signedOf, isSignature}
+use Rattle.certificate.specs.Body.{taMechanism, isSignature, signedOf}
 use Rattle.status.specs.declared.Intake.{Intake}
 use Rattle.status.specs.declared.Intake.the-variants.{Accepted as WasRead, Unfit}
 use Rattle.certificate.proofs.Good.{signed-good}
@@ -42,7 +42,7 @@ use Rattle.fields.specs.Given.{only, bad, selecting, verifying, announci
 use Rattle.fields.specs.Choice.{pace, chosen, chosenBy, rightsThen, passwordThen, protocolThen, choiceOf}
 use Rattle.fields.specs.Held.{heldIn, generalOf}
 use Rattle.fields.specs.Issuers.{selectOf, verified, verifyOf}
-use Rattle.fields.specs.Announce.{terminal, pastAuxiliary, keyThen, auxiliaryThen, terminalThen, announceOf}
+use Rattle.fields.specs.Announce.{pastAuxiliary, keyThen, auxiliaryThen, terminalThen, announceOf}
 use Rattle.fields.specs.Announce as announce
 use Rattle.fields.specs.Chip.{chip, referenceIn, chipOf}
 use Rattle.fields.specs.Plain.{proofOf, pinOf}
@@ -239,7 +239,7 @@ announce-sound : (s : List ℕ) → Sound KindAnnounce (announceOf s)
 unfolding announceOf announce.protocolThen terminalThen auxiliaryThen
 announce-sound s =
     reading-all bad (Sound KindAnnounce) (sound-bad KindAnnounce) s (announce.protocolThen s)
-    (taken-all bad (Sound KindAnnounce) (sound-bad KindAnnounce) 0x80 false (isAll terminal) s (λ c e. terminalThen)
+    (taken-all bad (Sound KindAnnounce) (sound-bad KindAnnounce) 0x80 false (isAll taMechanism) s (λ c e. terminalThen)
     (λ a e h. taken-all bad (Sound KindAnnounce) (sound-bad KindAnnounce) 0x83 false isName (drop e s) (λ c e. auxiliaryThen (nameOf c))
     (λ b f i. key-sound (nameOf (part b f (drop e s))) (name-good (part b f (drop e s)) i)
     (pastAuxiliary (drop f (drop e s)) (foundIn 0x67 true (drop f (drop e s)))))))
