@@ -35,8 +35,8 @@ use Rattle.command.specs.Shape.{shapeOf}
 use Rattle.command.specs.declared.kind.Kind.{Kind}
 use Rattle.command.specs.declared.kind.Kind.the-variants.{ChoosePassword, General as KindGeneral, SelectIssuer, VerifyCertificate, Announce as KindAnnounce, Challenge as KindChallenge, ProveTerminal, ChooseChipKey as KindChip, Read as KindRead, ChangePin as KindPin, Unblock as KindUnblock, Activate as KindActivate, Deactivate as KindDeactivate}
 use Rattle.command.specs.declared.Shape.{Shape}
-use Rattle.command.proofs.Groups.{GroupIn, ShapeIn, shape-in}
 use Rattle.command.specs.declared.Shape.the-variants.{Command, Faulty}
+use Rattle.command.proofs.Groups.{GroupIn, ShapeIn, shape-in}
 use Rattle.fields.specs.Taking.{reading, lastly, isAll, sized, holds}
 use Rattle.fields.specs.Given.{only, bad, selecting, verifying, announcing}
 use Rattle.fields.specs.Choice.{pace, chosen, chosenBy, rightsThen, passwordThen, protocolThen, choiceOf}
@@ -283,21 +283,3 @@ module _ (s : List ℕ) (k : Kind) (b : Bool) (x : Ask) (e : askedOf s .request 
   -- what is named is within its limits
   pub within-limits : Within x (askedOf s .name) (askedOf s .point) (askedOf s .key)
   within-limits = asked-sound .1
-
--- ---- ask by ask
-
-module _ (s : List ℕ) (k : Kind) (b : Bool) where
-  pub select-good : askedOf s .request ≡ Asks k b Select → nameFits (askedOf s .name) ≡ true
-  select-good e = within-limits s k b Select e
-
-  pub verify-good : askedOf s .request ≡ Asks k b Verify → (pointFits (askedOf s .point) ≡ true) × (nameFits (askedOf s .name) ≡ true)
-  verify-good e = within-limits s k b Verify e
-
-  pub announce-good : askedOf s .request ≡ Asks k b Announce → (keyFits (askedOf s .key) ≡ true) × (keyStands (askedOf s .key) ≡ true) × (nameFits (askedOf s .name) ≡ true)
-  announce-good e = within-limits s k b Announce e
-
-  pub rights-fit : (c : Choice) → askedOf s .request ≡ Asks k b (Choose c) → (r : Rights) → rightsNamed c ≡ These r → rightsFit r ≡ true
-  rights-fit c e = within-limits s k b (Choose c) e
-
-  pub group-in : (n : ℕ) → askedOf s .request ≡ Asks k b (Read n) → (1 ≤ n) × (n ≤ 21)
-  group-in n e = within-limits s k b (Read n) e

@@ -1,7 +1,7 @@
 -- What the methods do, and that each of them moves a desk as it may be moved. Assumes nothing.
 use Prim.Native.Nat.{ℕ}
 use mathlib.Core.Path.{_≡_, refl}
-use mathlib.Core.Bool.{true, false}
+use mathlib.Core.Bool.{false}
 use mathlib.Core.List.{List}
 use Rattle.days.specs.declared.Day.{Day}
 use Rattle.course.specs.declared.Note.{Note}

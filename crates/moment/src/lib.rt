@@ -1,6 +1,5 @@
 // The moment of each command: over the session, the command's kind and its CLA, before any data is judged.
 ghost use mathlib.Core.Path.{_≡_};
-ghost use Rattle.standing.specs.Standing.{rank};
 ghost use Rattle.moment.specs.Moment.{generalMoment, momentOf};
 use command::kind::Kind;
 use session::Session;
