@@ -23,10 +23,10 @@ use Rattle.certificate.specs.declared.Place.{Place}
 use Rattle.certificate.specs.declared.Reading.{Reading}
 use Rattle.status.specs.declared.Intake.the-variants.{Accepted, Unfit}
 
--- no body, and a body of n objects
 abbrev pub noPlace : Place
 noPlace = record { start = 0; end = 0 }
 
+-- no body, and a body of n objects
 unfoldable pub unread : Reading
 unread = record { answer = Unfit; body = record { issuer = noName; point = noPoint; key = noPlace; ext = noPlace; count = 0 } }
 

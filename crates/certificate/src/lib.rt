@@ -65,8 +65,6 @@ fn key_objects(s: &[u8], left: usize) -> Count
     }
 }
 
-// ---- the fields, a function each
-
 impl Reading {
     pub fn none() -> Self
         ensures { λ r. ⌜ r ≡ unread ⌝ }
@@ -122,6 +120,8 @@ pub fn read_signed(s: &[u8]) -> Reading
         Reading::none()
     }
 }
+
+// ---- the fields, a function each
 
 fn from_version(s: &[u8], stop: usize, used: usize) -> Reading
     requires { ⌜ (length (now s) ≤ stop) × (used ≤ 2) ⌝ }
