@@ -42,7 +42,7 @@ pub struct Reading {
 }
 
 // 06 and the mechanism of terminal authentication.
-const MECHANISM: [u8; 12] = [6, 10, 4, 0, 0x7F, 0, 7, 2, 2, 2, 2, 3];
+pub const MECHANISM: [u8; 12] = [6, 10, 4, 0, 0x7F, 0, 7, 2, 2, 2, 2, 3];
 
 // The longest signature.
 pub const SIGNATURE: usize = 256;
