@@ -9,7 +9,7 @@ use Rattle.event.specs.declared.Event.{Event}
 use Rattle.event.specs.Event.{wordOf}
 use Rattle.trust.specs.declared.Points.{Points}
 use Rattle.reply.specs.declared.Layout.{Layout}
-use Rattle.reply.specs.Lay.{Written}
+use Rattle.buffers.specs.Lay.{Written}
 use Rattle.reply.specs.Reply.{replyOf}
 use Rattle.answer.specs.Answer.{layoutOf, replyTo}
 

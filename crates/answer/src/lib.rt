@@ -1,7 +1,7 @@
 // The reply to an event: how it is laid out, its word, and the names of the trust points that it may show.
 ghost use mathlib.Core.Path.{_≡_};
 ghost use lib.ListN.{length};
-ghost use Rattle.reply.specs.Lay.{Written};
+ghost use Rattle.buffers.specs.Lay.{Written};
 ghost use Rattle.answer.specs.Answer.{stepTag, refusedLayout, layoutOf, replyTo};
 use event::Event;
 use event::Refusal;

@@ -8,7 +8,7 @@ use Rattle.strings.specs.Bytes.{copiedInto}
 use Rattle.names.specs.Names.{isName, nameOf}
 use Rattle.days.specs.Days.{isDay, isDate, before}
 use Rattle.rights.specs.Rights.{isRights}
-use Rattle.certificate.specs.Body.{isPublicKey, read, bodyOf, wholeOf, versionThen, issuerThen, keyThen, ownThen, rightsThen, firstThen, lastThen, extThen}
+use Rattle.certificate.specs.Body.{isPublicKey, read, bodyOf, bodyThen, versionThen, issuerThen, keyThen, ownThen, rightsThen, firstThen, lastThen, extThen}
 
 -- UTTERM00001, made by cvc-create
 abbrev real : List ℕ
@@ -19,5 +19,5 @@ pub real-read :
     ≡ read (record { bytes = 0x55 ∷ 0x54 ∷ 0x44 ∷ 0x56 ∷ 0x44 ∷ 0x4F ∷ 0x4D ∷ 0x30 ∷ 0x30 ∷ 0x30 ∷ 0x30 ∷ 0x31 ∷ 0x00 ∷ 0x00 ∷ 0x00 ∷ 0x00 ∷ []; len = 12 }) (record { start = 22; end = 104 })
     (record { bytes = 0x55 ∷ 0x54 ∷ 0x54 ∷ 0x45 ∷ 0x52 ∷ 0x4D ∷ 0x30 ∷ 0x30 ∷ 0x30 ∷ 0x30 ∷ 0x31 ∷ 0x00 ∷ 0x00 ∷ 0x00 ∷ 0x00 ∷ 0x00 ∷ []; len = 11 }) (record { 0 = 0x0000000110 }) (record { 0 = 20260201 }) (record { 0 = 20260228 })
     (record { start = 0; end = 0 }) 12
-unfolding bodyOf wholeOf versionThen issuerThen keyThen ownThen rightsThen firstThen lastThen extThen taken isName nameOf copiedInto isDay isDate before isRights isPublicKey objectsIn objects objectsOf foundIn headerOf tagOf secondTagByte lenOf lengthAfter81 lengthAfter82
+unfolding bodyOf bodyThen versionThen issuerThen keyThen ownThen rightsThen firstThen lastThen extThen taken isName nameOf copiedInto isDate isDay before isRights isPublicKey objectsIn objects objectsOf foundIn headerOf tagOf secondTagByte lenOf lengthAfter81 lengthAfter82
 real-read = refl

@@ -1,5 +1,5 @@
 -- A body that was read is within document 01's limits. Assumes nothing.
-use Prim.Native.Nat.{ℕ, _-_}
+use Prim.Native.Nat.{ℕ}
 use mathlib.Core.Path.{_≡_}
 use mathlib.Core.Bool.{true, false, not}
 use mathlib.Core.List.{List, [], _∷_}
@@ -7,7 +7,7 @@ use lib.Dec.{eqb}
 use lib.ListN.{length, drop}
 use Rattle.laws.proofs.Bools.{of-both, and-l, and-r, true-false}
 use Rattle.objects.specs.Objects.{part, objectsIn}
-use Rattle.objects.specs.Chain.{taken, any}
+use Rattle.objects.specs.Chain.{answered, any}
 use Rattle.objects.proofs.Chain.{taken-all, answered-all}
 use Rattle.strings.specs.Bytes.{eqbs}
 use Rattle.names.specs.Names.{isName, nameOf, nameFits}
@@ -20,7 +20,7 @@ use Rattle.rights.specs.declared.Rights.{Rights}
 use Rattle.names.proofs.Kept.{name-good}
 use Rattle.days.proofs.Kept.{day-good}
 use Rattle.rights.proofs.Kept.{rights-good}
-use Rattle.certificate.specs.Body.{unread, read, ended, placeOf, isLast, isPublicKey, isSignature, Pending, bodyOf, wholeOf, signedOf, signedWhole, versionThen, issuerThen, keyThen, ownThen, rightsThen, firstThen, lastThen, extThen}
+use Rattle.certificate.specs.Body.{unread, read, ended, placeOf, isLast, isPublicKey, isSignature, Pending, bodyThen, signature, bodyOf, signedOf, versionThen, issuerThen, keyThen, ownThen, rightsThen, firstThen, lastThen, extThen}
 use Rattle.certificate.specs.declared.Place.{Place}
 use Rattle.certificate.specs.declared.Body.{Body}
 use Rattle.certificate.specs.declared.Reading.{Reading}
@@ -88,20 +88,27 @@ module _ (stop : ℕ) where
   unfolding versionThen
   version-good s n = taken-all unread ReadGood never 0x5F29 false (λ c. eqbs c (0 ∷ [])) s (λ c e. issuerThen stop) (λ a e h. issuer-good (drop e s)) n
 
-ended-good : (stop : ℕ) (c r : List ℕ) (n : ℕ) → ReadGood (ended r (versionThen stop c) n)
-ended-good stop c r n = of-both (λ (p : Pending). ReadGood (p n)) (eqb (length r) 0) (version-good stop c n) never
+-- what may follow a body keeps it good
+abbrev Keeps : (List ℕ → Pending → Pending) → Type 0
+Keeps after = (s : List ℕ) (k : Pending) → ((n : ℕ) → ReadGood (k n)) → (n : ℕ) → ReadGood (after s k n)
+
+ended-good : Keeps ended
+ended-good s k h n = of-both (λ (p : Pending). ReadGood (p n)) (eqb (length s) 0) (h n) never
+
+signature-good : Keeps signature
+signature-good s k h = taken-all unread ReadGood never 0x5F37 false isSignature s (λ g f rest. ended rest k) (λ a e i. ended-good (drop e s) k h)
+
+whole-good : (after : List ℕ → Pending → Pending) → Keeps after → (s : List ℕ) → ReadGood (answered unread (objectsIn s) (bodyThen after s))
+unfolding bodyThen
+whole-good after keeps s =
+    answered-all unread ReadGood never (objectsIn s) (bodyThen after s)
+    (taken-all unread ReadGood never 0x7F4E true any s (λ c e rest. after rest (versionThen e c)) (λ a e h. keeps (drop e s) (versionThen e (part a e s)) (version-good e (part a e s))))
 
 -- what was read is good, alone and with its signature
 pub body-good : (s : List ℕ) → ReadGood (bodyOf s)
-unfolding bodyOf wholeOf
-body-good s =
-    answered-all unread ReadGood never (objectsIn s) (wholeOf s)
-    (taken-all unread ReadGood never 0x7F4E true any s (λ c e r. ended r (versionThen e c)) (λ a e h. ended-good e (part a e s) (drop e s)))
+unfolding bodyOf
+body-good = whole-good ended ended-good
 
 pub signed-good : (s : List ℕ) → ReadGood (signedOf s)
-unfolding signedOf signedWhole
-signed-good s =
-    answered-all unread ReadGood never (objectsIn s) (signedWhole s)
-    (taken-all unread ReadGood never 0x7F4E true any s (λ c e r. taken unread 0x5F37 false isSignature r (λ g f q. ended q (versionThen e c)))
-    (λ a e h. taken-all unread ReadGood never 0x5F37 false isSignature (drop e s) (λ g f q. ended q (versionThen e (part a e s)))
-    (λ b f k. ended-good e (part a e s) (drop f (drop e s)))))
+unfolding signedOf
+signed-good = whole-good signature signature-good

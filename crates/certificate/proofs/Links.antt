@@ -7,13 +7,13 @@ use native.Mathlib.Omega.{arith}
 use mathlib.Core.Path.{_≡_, refl, sym, ap, _∙_}
 use mathlib.Core.Bool.{Bool, true, false, cond, not, _&&_}
 use mathlib.Core.List.{List, [], _∷_}
-use borrow.Author.Tests.{eq-eqb, ne-eqb, eqb-true, eqb-false, leb-true, le-leb}
+use borrow.Author.Tests.{eq-eqb, ne-eqb, eqb-true, eqb-false, le-leb}
 use mir.Val.{Fits}
 use mir.Syntax.{w64}
-use lib.Dec.{eqb, leb}
+use lib.Dec.{eqb}
 use lib.ListN.{length, drop, length-drop}
-use Rattle.objects.specs.Objects.{allowance, deepest, part, objectsAt, within, foundIn}
-use Rattle.objects.specs.Chain.{counted, taken, takenBy, any}
+use Rattle.objects.specs.Objects.{allowance, deepest, part, objectsAt, objectsIn, within, foundIn}
+use Rattle.objects.specs.Chain.{answered, counted, taken, takenBy, any}
 use Rattle.objects.specs.declared.Count.{Count}
 use Rattle.objects.specs.declared.Count.the-variants.{Objects, Refused}
 use Rattle.objects.specs.declared.Found.{Found}
@@ -27,7 +27,7 @@ use Rattle.strings.specs.Bytes.{eqbs, among}
 use Rattle.names.specs.Names.{isName, nameOf}
 use Rattle.days.specs.Days.{isDate, dayOf, dated, before}
 use Rattle.rights.specs.Rights.{isRights, rightsOf, granted}
-use Rattle.certificate.specs.Body.{isLast, isPublicKey, keyObjects, isSignature, unread, read, noPlace, ended, placeOf, bodyOf, wholeOf, signedOf, signedWhole, isSigned, signsBy, versionThen, issuerThen, keyThen, ownThen, rightsThen, firstThen, lastThen, extThen}
+use Rattle.certificate.specs.Body.{isLast, isPublicKey, keyObjects, isSignature, unread, read, noPlace, Pending, ended, placeOf, bodyThen, signature, bodyOf, signedOf, isSigned, signsBy, versionThen, issuerThen, keyThen, ownThen, rightsThen, firstThen, lastThen, extThen}
 use Rattle.names.specs.declared.Name.{Name}
 use Rattle.days.specs.declared.Day.{Day}
 use Rattle.rights.specs.declared.Rights.{Rights}
@@ -37,13 +37,8 @@ use Rattle.days.specs.declared.Dated.{Dated}
 use Rattle.days.specs.declared.Dated.the-variants.{On, NoDay}
 use Rattle.rights.specs.declared.Granted.{Granted}
 use Rattle.rights.specs.declared.Granted.the-variants.{These, NoRights}
-use Rattle.laws.proofs.Bools.{and-l, and-r}
+use Rattle.laws.proofs.Bools.{true-false, and-r, picked-l, picked-r}
 use Rattle.certificate.proofs.Contents.{rights-count}
-
--- a name that fits has room
-pub name-room : (b : Bool) (c : List ℕ) → b ≡ isName c → b ≡ true → length c ≤ 16
-unfolding isName
-name-room b c e t = leb-true (length c) 16 (and-r (leb 8 (length c)) (leb (length c) 16) (and-l (among 8 16 (length c)) _ (sym e ∙ t)))
 
 -- ---- giving up, at any object
 module _ (used : ℕ) (s : List ℕ) (t : ℕ) (w : Bool) (fits : List ℕ → Bool) (k : List ℕ → ℕ → List ℕ → ℕ → Reading) (c : Count)
@@ -82,11 +77,10 @@ module _ (stop used : ℕ) (s : List ℕ) (f : Found) (is : f ≡ foundIn 0x42 f
 -- 7F49
 key-holds : (left : ℕ) (c : List ℕ) (n : ℕ) → keyObjects left c ≡ Objects n → (isPublicKey c ≡ true) × (objectsAt 3 c ≡ Objects n) × (n ≤ left)
 unfolding keyObjects
-key-holds left c n = go (isPublicKey c)
-  where
-    go : (b : Bool) → cond b (within left (objectsAt 3 c)) Refused ≡ Objects n → (b ≡ true) × (objectsAt 3 c ≡ Objects n) × (n ≤ left)
-    go true e = let k = kept-objects left (objectsAt 3 c) n e in (refl, k .0, k .1)
-    go false e = absurd (let z : _≡_ {A = ℕ} 0 1 = cc in omega arith)
+key-holds left c n e =
+    let p = picked-l (isPublicKey c) e (λ q. true-false cc) in
+    let k = kept-objects left (objectsAt 3 c) n (p .1) in
+    (p .0, k .0, k .1)
 
 -- what a key's objects leave, and that the sum fits
 pub key-room : (w : Count) (used : ℕ) (c : List ℕ) (n : ℕ) → w ≡ keyObjects (allowance - 1 - used) c → w ≡ Objects n → used ≤ 4 → used + 1 + n ≤ allowance
@@ -125,19 +119,14 @@ module _ (stop used : ℕ) (issuer : Name) (key : Place) (s : List ℕ) (f : Fou
 -- 7F4C
 rights-hold : (c : List ℕ) (r : Rights) → granted c ≡ These r → (isRights c ≡ true) × (r ≡ record { 0 = rightsOf c })
 unfolding granted
-rights-hold c r = go (isRights c)
-  where
-    go : (b : Bool) → cond b (These (record { 0 = rightsOf c })) NoRights ≡ These r → (b ≡ true) × (r ≡ record { 0 = rightsOf c })
-    go true e = (refl, cc)
-    go false e = absurd (let z : _≡_ {A = ℕ} 0 1 = cc in omega arith)
+rights-hold c r e =
+    let p = picked-l (isRights c) e (λ q. true-false cc) in
+    let k = p .1 in
+    (p .0, cc)
 
 rights-fail : (c : List ℕ) → granted c ≡ NoRights → isRights c ≡ false
 unfolding granted
-rights-fail c = go (isRights c)
-  where
-    go : (b : Bool) → cond b (These (record { 0 = rightsOf c })) NoRights ≡ NoRights → b ≡ false
-    go true e = absurd (let z : _≡_ {A = ℕ} 0 1 = cc in omega arith)
-    go false e = refl
+rights-fail c e = picked-r (isRights c) e (λ q. true-false cc) .0
 
 module _ (stop used : ℕ) (issuer : Name) (key : Place) (own : Name) (s : List ℕ) (f : Found) (is : f ≡ foundIn 0x7F4C true s) (a e : ℕ) (p : f ≡ Content a e)
     (w : Granted) (v : w ≡ granted (part a e s)) (x : Reading) where
@@ -155,19 +144,14 @@ module _ (stop used : ℕ) (issuer : Name) (key : Place) (own : Name) (s : List 
 -- 5F25 and 5F24
 day-holds : (c : List ℕ) (d : Day) → dated c ≡ On d → (isDate c ≡ true) × (d ≡ record { 0 = dayOf c })
 unfolding dated
-day-holds c d = go (isDate c)
-  where
-    go : (b : Bool) → cond b (On (record { 0 = dayOf c })) NoDay ≡ On d → (b ≡ true) × (d ≡ record { 0 = dayOf c })
-    go true e = (refl, cc)
-    go false e = absurd (let z : _≡_ {A = ℕ} 0 1 = cc in omega arith)
+day-holds c d e =
+    let p = picked-l (isDate c) e (λ q. true-false cc) in
+    let k = p .1 in
+    (p .0, cc)
 
 day-fails : (c : List ℕ) → dated c ≡ NoDay → isDate c ≡ false
 unfolding dated
-day-fails c = go (isDate c)
-  where
-    go : (b : Bool) → cond b (On (record { 0 = dayOf c })) NoDay ≡ NoDay → b ≡ false
-    go true e = absurd (let z : _≡_ {A = ℕ} 0 1 = cc in omega arith)
-    go false e = refl
+day-fails c e = picked-r (isDate c) e (λ q. true-false cc) .0
 
 module _ (stop used : ℕ) (issuer : Name) (key : Place) (own : Name) (rights : Rights) (s : List ℕ) (f : Found) (is : f ≡ foundIn 0x5F25 false s) (a e : ℕ) (p : f ≡ Content a e)
     (w : Dated) (v : w ≡ dated (part a e s)) (x : Reading) where
@@ -246,43 +230,57 @@ module _ (stop used : ℕ) (issuer : Name) (key : Place) (own : Name) (rights : 
             let o : length (rest s e) ≡ 0 = rw (from s e) (simp length-drop (omega arith)) in
             g ∙ rw (ne-eqb (length s) 0 some, nest-taken unread used (deepest - 2) s 0x65 any _ a e n (omega arith) (sym is ∙ p) refl (k .0), objects-none (deepest - 2) (rest s e) o, eq-eqb (length (rest s e)) 0 o, m)
 
--- ---- the whole
+-- ---- the whole: the body, and what must follow it
 
-body-counted : (s : List ℕ) → bodyOf s ≡ counted unread 0 (objectsAt 1 s) (wholeOf s)
-unfolding bodyOf
-body-counted s = answered-counted unread s (wholeOf s)
+module _ (after : List ℕ → Pending → Pending) (s : List ℕ) (f : Found) (is : f ≡ foundIn 0x7F4E true s) (x : Reading) where
+  whole-missing : x ≡ unread → f ≡ Missing → x ≡ answered unread (objectsIn s) (bodyThen after s)
+  unfolding bodyThen
+  whole-missing u p =
+      u ∙ sym (answered-counted unread s (bodyThen after s) ∙ not-taken unread 0 (deepest - 1) s 0x7F4E any (λ c e r. after r (versionThen e c)) true (objectsAt 1 s) (sym is ∙ p))
+
+  module _ (a e : ℕ) (p : f ≡ Content a e) where
+    -- what follows is not what must
+    whole-off : x ≡ unread → after (drop e s) (versionThen e (part a e s)) ≡ (λ n. unread) → x ≡ answered unread (objectsIn s) (bodyThen after s)
+    unfolding bodyThen
+    whole-off u q =
+        let t : counted unread 0 (objectsAt 1 s) (bodyThen after s) ≡ unread =
+        rw (taken-is unread 0 (deepest - 1) s 0x7F4E any (λ c e r. after r (versionThen e c)) true a e (sym is ∙ p) refl, q) (counted-no unread 0 (objectsAt 1 s)) in
+        u ∙ sym (answered-counted unread s (bodyThen after s) ∙ t)
+
+    -- what follows is n objects, and is what must
+    whole-on : (n : ℕ) → objectsAt 1 (rest s e) ≡ Objects n → after (rest s e) (versionThen e (part a e s)) ≡ versionThen e (part a e s)
+        → x ≡ counted unread (1 + n) (objectsAt 2 (part a e s)) (versionThen e (part a e s)) → x ≡ answered unread (objectsIn s) (bodyThen after s)
+    unfolding bodyThen counted
+    whole-on n o q g = g ∙ go (objectsAt 2 (part a e s)) refl ∙ sym (answered-counted unread s (bodyThen after s))
+      where
+        go : (c : Count) → objectsAt 2 (part a e s) ≡ c → counted unread (1 + n) c (versionThen e (part a e s)) ≡ counted unread 0 (objectsAt 1 s) (bodyThen after s)
+        go Refused w = sym (nest-refused unread 0 (deepest - 1) s 0x7F4E a e (allowance - 1) (bodyThen after s) (omega arith) (sym is ∙ p) (omega arith) (rw w))
+        go (Objects m) w =
+            let k : 0 + (m + 1) + n ≡ 1 + n + m = omega arith in
+            rw (nest-taken unread 0 (deepest - 1) s 0x7F4E any (λ c e r. after r (versionThen e c)) a e m (omega arith) (sym is ∙ p) refl w, o, q, k)
+
+-- ---- the body alone
 
 module _ (s : List ℕ) (f : Found) (is : f ≡ foundIn 0x7F4E true s) (x : Reading) where
   pub body-missing : x ≡ unread → f ≡ Missing → x ≡ bodyOf s
-  unfolding wholeOf
-  body-missing u p = u ∙ rw (body-counted s) (sym (not-taken unread 0 (deepest - 1) s 0x7F4E any _ true (objectsAt 1 s) (sym is ∙ p)))
+  unfolding bodyOf
+  body-missing = whole-missing ended s f is x
 
   module _ (a e : ℕ) (p : f ≡ Content a e) where
     pub body-more : x ≡ unread → (e ≡ length s → ⊥) → x ≡ bodyOf s
-    unfolding wholeOf taken
+    unfolding bodyOf
     body-more u n =
         let z = found-end f 0x7F4E true s a e is p in
         let l = length-drop e s in
-        u ∙ rw (body-counted s, sym is ∙ p, ne-eqb (length (drop e s)) 0 (λ m. n (omega arith))) (sym (counted-no unread 0 (objectsAt 1 s)))
+        whole-off ended s f is x a e p u (rw (ne-eqb (length (drop e s)) 0 (λ m. n (omega arith))))
 
     pub body-on : e ≡ length s → x ≡ counted unread 1 (objectsAt 2 (part a e s)) (versionThen e (part a e s)) → x ≡ bodyOf s
-    unfolding wholeOf counted
-    body-on l g = g ∙ rw (body-counted s) (go (objectsAt 2 (part a e s)) refl)
-      where
-        o : length (rest s e) ≡ 0
-        o = rw (from s e) (simp length-drop (omega arith))
+    unfolding bodyOf
+    body-on l g =
+        let o : length (rest s e) ≡ 0 = rw (from s e) (simp length-drop (omega arith)) in
+        whole-on ended s f is x a e p 0 (objects-none (deepest - 1) (rest s e) o) (rw (eq-eqb (length (rest s e)) 0 o)) g
 
-        go : (c : Count) → objectsAt 2 (part a e s) ≡ c → counted unread 1 c (versionThen e (part a e s)) ≡ counted unread 0 (objectsAt 1 s) (wholeOf s)
-        go Refused q = sym (nest-refused unread 0 (deepest - 1) s 0x7F4E a e (allowance - 1) (wholeOf s) (omega arith) (sym is ∙ p) (omega arith) (rw q))
-        go (Objects m) q =
-            let k : 0 + (m + 1) + 0 ≡ 1 + m = omega arith in
-            rw (nest-taken unread 0 (deepest - 1) s 0x7F4E any (λ c e r. ended r (versionThen e c)) a e m (omega arith) (sym is ∙ p) refl q, objects-none (deepest - 1) (rest s e) o, eq-eqb (length (rest s e)) 0 o, k)
-
--- ---- the whole with its signature
-
-signed-counted : (s : List ℕ) → signedOf s ≡ counted unread 0 (objectsAt 1 s) (signedWhole s)
-unfolding signedOf
-signed-counted s = answered-counted unread s (signedWhole s)
+-- ---- the body with its signature
 
 same-end : (z : ℕ) (r : List ℕ) → z ≤ length r → eqb (length (drop z r)) 0 ≡ eqb z (length r)
 same-end z r h = go (eqb z (length r)) refl
@@ -292,7 +290,7 @@ same-end z r h = go (eqb z (length r)) refl
     go false e = ne-eqb (length (drop z r)) 0 (λ m. eqb-false z (length r) e (omega (arith, length-drop z r)))
 
 -- the definition's test of a signature is the code's
-sign-is : (k : ℕ → Reading) (r : List ℕ) → taken unread 0x5F37 false isSignature r (λ g f q. ended q k) ≡ cond (isSigned r) k (λ n. unread)
+sign-is : (k : Pending) (r : List ℕ) → signature r k ≡ cond (isSigned r) k (λ n. unread)
 unfolding taken isSigned isSignature
 sign-is k r = go (foundIn 0x5F37 false r) refl
   where
@@ -312,39 +310,27 @@ unfolding isSigned
 signature-count r = go (foundIn 0x5F37 false r) refl
   where
     go : (f : Found) → foundIn 0x5F37 false r ≡ f → signsBy r f ≡ true → objectsAt 1 r ≡ Objects 1
-    go Missing p h = absurd (let z : _≡_ {A = ℕ} 0 1 = cc in omega arith)
+    go Missing p h = true-false cc
     go (Content a z) p h =
         let l = eqb-true z (length r) (and-r (among 1 256 (z - a)) (eqb z (length r)) h) in
         rw (flat-counts (deepest - 1) r 0x5F37 a z p, objects-none (deepest - 1) (drop z r) (simp length-drop (omega arith)))
 
 module _ (s : List ℕ) (f : Found) (is : f ≡ foundIn 0x7F4E true s) (x : Reading) where
   pub signed-missing : x ≡ unread → f ≡ Missing → x ≡ signedOf s
-  unfolding signedWhole
-  signed-missing u p = u ∙ rw (signed-counted s) (sym (not-taken unread 0 (deepest - 1) s 0x7F4E any _ true (objectsAt 1 s) (sym is ∙ p)))
+  unfolding signedOf
+  signed-missing = whole-missing signature s f is x
 
   module _ (a e : ℕ) (p : f ≡ Content a e) (b : Bool) (v : b ≡ isSigned (rest s e)) where
     pub signed-off : x ≡ unread → b ≡ false → x ≡ signedOf s
-    unfolding signedWhole
+    unfolding signedOf
     signed-off u q =
         let n : isSigned (drop e s) ≡ false = rw (from s e) at (sym v ∙ q) in
-        u ∙ rw (signed-counted s, taken-is unread 0 (deepest - 1) s 0x7F4E any (λ c e r. taken unread 0x5F37 false isSignature r (λ g f q. ended q (versionThen e c))) true a e (sym is ∙ p) refl, sign-is (versionThen e (part a e s)) (drop e s), n)
-        (sym (counted-no unread 0 (objectsAt 1 s)))
+        whole-off signature s f is x a e p u (rw (sign-is (versionThen e (part a e s)) (drop e s), n))
 
     pub signed-on : b ≡ true → x ≡ counted unread 2 (objectsAt 2 (part a e s)) (versionThen e (part a e s)) → x ≡ signedOf s
-    unfolding signedWhole counted
-    signed-on q g = g ∙ rw (signed-counted s) (go (objectsAt 2 (part a e s)) refl)
-      where
-        go : (c : Count) → objectsAt 2 (part a e s) ≡ c → counted unread 2 c (versionThen e (part a e s)) ≡ counted unread 0 (objectsAt 1 s) (signedWhole s)
-        go Refused w = sym (nest-refused unread 0 (deepest - 1) s 0x7F4E a e (allowance - 1) (signedWhole s) (omega arith) (sym is ∙ p) (omega arith) (rw w))
-        go (Objects m) w =
-            let k : 0 + (m + 1) + 1 ≡ 2 + m = omega arith in
-            rw (
-              nest-taken unread 0 (deepest - 1) s 0x7F4E any (λ c e r. taken unread 0x5F37 false isSignature r (λ g f q. ended q (versionThen e c))) a e m (omega arith) (sym is ∙ p) refl w,
-              sign-is (versionThen e (part a e s)) (rest s e),
-              signature-count (rest s e) (sym v ∙ q),
-              sym v ∙ q,
-              k,
-            )
+    unfolding signedOf
+    signed-on q g =
+        whole-on signature s f is x a e p 1 (signature-count (rest s e) (sym v ∙ q)) (rw (sign-is (versionThen e (part a e s)) (rest s e), sym v ∙ q)) g
 
 -- ---- the test of a signature
 module _ (r : List ℕ) (f : Found) (is : f ≡ foundIn 0x5F37 false r) where
@@ -362,7 +348,6 @@ pub ruleset links = (
   unfit,
   over,
   whole-is,
-  name-room,
   version-on,
   issuer-on,
   key-on,

@@ -23,10 +23,10 @@ use Rattle.certificate.specs.declared.Place.{Place}
 use Rattle.certificate.specs.declared.Reading.{Reading}
 use Rattle.status.specs.declared.Intake.the-variants.{Accepted, Unfit}
 
--- no body, and a body of n objects
 abbrev pub noPlace : Place
 noPlace = record { start = 0; end = 0 }
 
+-- no body, and a body of n objects
 unfoldable pub unread : Reading
 unread = record { answer = Unfit; body = record { issuer = noName; point = noPoint; key = noPlace; ext = noPlace; count = 0 } }
 
@@ -49,12 +49,16 @@ placeOf stop s e = record { start = stop - length s; end = stop - length s + e }
 abbrev pub ended : List ℕ → Pending → Pending
 ended s k = cond (eqb (length s) 0) k (λ n. unread)
 
--- a public key starts with 06 and 04 00 7F 00 07 02 02 02 02 03
+-- the mechanism of terminal authentication: 04 00 7F 00 07 02 02 02 02 03
+abbrev pub taMechanism : List ℕ
+taMechanism = 0x04 ∷ 0x00 ∷ 0x7F ∷ 0x00 ∷ 0x07 ∷ 0x02 ∷ 0x02 ∷ 0x02 ∷ 0x02 ∷ 0x03 ∷ []
+
+-- a public key starts with 06 and that
 abbrev pub mechanism : List ℕ
-mechanism = 0x06 ∷ 10 ∷ 0x04 ∷ 0x00 ∷ 0x7F ∷ 0x00 ∷ 0x07 ∷ 0x02 ∷ 0x02 ∷ 0x02 ∷ 0x02 ∷ 0x03 ∷ []
+mechanism = 0x06 ∷ 10 ∷ taMechanism
 
 unfoldable pub isPublicKey : List ℕ → Bool
-isPublicKey c = eqbs (take 12 c) mechanism
+isPublicKey c = eqbs (take (length mechanism) c) mechanism
 
 -- "5F37 (1 to 256 bytes)"
 abbrev pub longestSignature : ℕ
@@ -103,20 +107,20 @@ module _ (stop : ℕ) where
   unfoldable pub versionThen : List ℕ → Pending
   versionThen s = taken unread 0x5F29 false (λ c. eqbs c (0x00 ∷ [])) s (λ c e. issuerThen)
 
--- Body 7F4E, alone
-unfoldable pub wholeOf : List ℕ → Pending
-wholeOf s = taken unread 0x7F4E true any s (λ c e rest. ended rest (versionThen e c))
+-- Body 7F4E, and what must follow it
+unfoldable pub bodyThen : (List ℕ → Pending → Pending) → List ℕ → Pending
+bodyThen after s = taken unread 0x7F4E true any s (λ c e rest. after rest (versionThen e c))
 
--- readable within the depth and the allowance, and the fields fit
+-- 5F37 with a signature, and nothing after it
+abbrev pub signature : List ℕ → Pending → Pending
+signature s k = taken unread 0x5F37 false isSignature s (λ g f rest. ended rest k)
+
+-- readable within the depth and the allowance, and the fields fit: the body alone, or with its signature in one reading
 unfoldable pub bodyOf : List ℕ → Reading
-bodyOf s = answered unread (objectsIn s) (wholeOf s)
-
--- 7F4E, then 5F37 with a signature: one reading
-unfoldable pub signedWhole : List ℕ → Pending
-signedWhole s = taken unread 0x7F4E true any s (λ c e r. taken unread 0x5F37 false isSignature r (λ g f q. ended q (versionThen e c)))
+bodyOf s = answered unread (objectsIn s) (bodyThen ended s)
 
 unfoldable pub signedOf : List ℕ → Reading
-signedOf s = answered unread (objectsIn s) (signedWhole s)
+signedOf s = answered unread (objectsIn s) (bodyThen signature s)
 
 -- ---- as the code tests them
 

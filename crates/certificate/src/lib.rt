@@ -42,7 +42,7 @@ pub struct Reading {
 }
 
 // 06 and the mechanism of terminal authentication.
-const MECHANISM: [u8; 12] = [6, 10, 4, 0, 0x7F, 0, 7, 2, 2, 2, 2, 3];
+pub const MECHANISM: [u8; 12] = [6, 10, 4, 0, 0x7F, 0, 7, 2, 2, 2, 2, 3];
 
 // The longest signature.
 pub const SIGNATURE: usize = 256;
@@ -64,8 +64,6 @@ fn key_objects(s: &[u8], left: usize) -> Count
         Count::Refused
     }
 }
-
-// ---- the fields, a function each
 
 impl Reading {
     pub fn none() -> Self
@@ -122,6 +120,8 @@ pub fn read_signed(s: &[u8]) -> Reading
         Reading::none()
     }
 }
+
+// ---- the fields, a function each
 
 fn from_version(s: &[u8], stop: usize, used: usize) -> Reading
     requires { ⌜ (length (now s) ≤ stop) × (used ≤ 2) ⌝ }

@@ -1,4 +1,5 @@
 pub mod Forms
 pub mod Rows
 pub mod Shapes
+pub mod Groups
 pub mod Examples

@@ -1,6 +1,5 @@
 -- Each arm of a match, and the plans' empty parts. Assumes nothing.
 use borrow.Author.Needs.{needs}
-use Prim.Native.Nat.{ℕ}
 use mathlib.Core.Bool.{Bool}
 use mathlib.Core.Path.{_≡_, sym, ap, _∙_}
 use Rattle.points.specs.Points.{noPoint}
@@ -15,16 +14,12 @@ use Rattle.course.specs.declared.Course.{Course}
 use Rattle.course.specs.declared.Course.the-variants.{Settled, Awaits}
 use Rattle.course.specs.declared.Plan.{Plan}
 use Rattle.course.specs.Course.{settledBy, awaitsBy, guardOf, courseJob}
-use Rattle.course.specs.Course.{jobNumber}
 
 pub guard-arm : (o : Bool) (x d : Note) (r : Guard) → x ≡ d → r ≡ guardOf d o → r ≡ guardOf x o
 guard-arm o x d r e z = z ∙ ap (λ (y : Note). guardOf y o) (sym e)
 
 pub job-arm : (x d : Course) (r : Job) → x ≡ d → r ≡ courseJob d → r ≡ courseJob x
 job-arm x d r e z = z ∙ ap courseJob (sym e)
-
-pub number-arm : (x d : Job) (r : ℕ) → x ≡ d → r ≡ jobNumber d → r ≡ jobNumber x
-number-arm x d r e z = z ∙ ap jobNumber (sym e)
 
 -- ---- plans
 
@@ -37,4 +32,4 @@ module _ (p : Point) (k : Key) (h : p ≡ noPoint) (i : k ≡ noKey) where
   unfolding awaitsBy
   awaits-is j x y = rw (h, i)
 
-pub ruleset courses = (guard-arm, job-arm, number-arm, settled-is, awaits-is, needs)
+pub ruleset courses = (guard-arm, job-arm, settled-is, awaits-is, needs)

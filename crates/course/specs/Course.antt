@@ -34,7 +34,7 @@ abbrev pub courseJob : Course → Job
 courseJob (Settled e) = Nothing
 courseJob (Awaits j x y) = j
 
--- the nine jobs; none is none of them
+-- the nine jobs, in the order of "Commands"; 0 is no job
 abbrev pub jobNumber : Job → ℕ
 jobNumber Nothing = 0
 jobNumber (StepJob p) = stepNumber p

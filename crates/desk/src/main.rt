@@ -1,11 +1,11 @@
 // A desk for trying a token by hand: a line from standard input, its answer to standard output.
 ghost use Prim.Native.Nat.{_<_};
+use buffers::put;
 use laid::Desk;
 use lines::answer;
 use text::find;
 use text::front;
 use text::past;
-use text::put;
 use wording::ANSWER;
 use words::LINE;
 

@@ -11,12 +11,12 @@ use lib.Seq.{drop-cons}
 use borrow.Author.Tests.{lt-ltb, le-ltb, not-true, not-false}
 use Rattle.strings.specs.Bytes.{among}
 use Rattle.strings.proofs.Strings.{among-low, among-high}
-use Rattle.reply.specs.Lay.{over, Put}
-use Rattle.text.specs.Room.{fitting}
+use Rattle.buffers.specs.Lay.{over, Put}
+use Rattle.buffers.specs.Room.{fitting}
+use Rattle.buffers.proofs.Laying.{over-back, placed, unplaced}
 use Rattle.digits.specs.declared.number.Radix.{Radix}
 use Rattle.digits.specs.declared.number.Radix.the-variants.{Ten, Sixteen}
 use Rattle.digits.specs.Digits.{baseOf, glyph, worth, isDigit, digits, places, decimal, allDigits}
-use Rattle.text.proofs.Laying.{over-back, placed, unplaced}
 
 pub base-some : (r : Radix) (b : ℕ) → b ≡ baseOf r → 0 < b
 base-some Ten b e = omega arith

@@ -10,13 +10,12 @@ use lib.ListN.{length, drop, getD, set, length-drop, length-set}
 use lib.Seq.{drop-cons}
 use borrow.Author.Tests.{eq-eqb, ne-eqb, lt-leb, le-leb, not-true, not-false}
 use Rattle.strings.specs.Bytes.{eqbs}
-use Rattle.reply.specs.Lay.{over, Put}
-use Rattle.reply.proofs.Laying.{over-none}
-use Rattle.text.specs.Room.{fitting}
+use Rattle.buffers.specs.Lay.{over, Put}
+use Rattle.buffers.specs.Room.{fitting}
+use Rattle.buffers.proofs.Laying.{over-none, over-front, placed, unplaced}
 use Rattle.digits.specs.declared.hex.Taken.the-variants.{Bytes, NoBytes}
 use Rattle.digits.specs.Digits.{glyph, worth, allDigits}
 use Rattle.digits.specs.Hex.{pairs, dash, hexOf, bytesOf, isHex, hexRead, hexLaid}
-use Rattle.text.proofs.Laying.{over-front, placed, unplaced}
 
 pub pairs-long : (s : List ℕ) → 2 * length s ≡ length (pairs s)
 pairs-long [] = refl

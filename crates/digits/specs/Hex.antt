@@ -17,7 +17,7 @@ pairs (b ∷ s) = glyph (b / 16) ∷ glyph (b % 16) ∷ pairs s
 abbrev pub dash : List ℕ
 dash = 0x2D ∷ []
 
--- "`-` for no bytes; answers are upper-case hex"
+-- `-` for no bytes; answers are upper-case hex
 unfoldable pub hexOf : List ℕ → List ℕ
 hexOf s = cond (eqb (length s) 0) dash (pairs s)
 
@@ -27,7 +27,7 @@ bytesOf [] = []
 bytesOf (a ∷ []) = []
 bytesOf (a ∷ b ∷ s) = (worth a * 16 + worth b) ∷ bytesOf s
 
--- "bytes are hex in either case, `-` for no bytes"
+-- bytes are hex in either case, `-` for no bytes
 unfoldable pub isHex : List ℕ → Bool
 isHex w = eqbs w dash || (leb 1 (length w) && eqb (length w % 2) 0 && allDigits 16 w)
 

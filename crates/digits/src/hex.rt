@@ -2,16 +2,16 @@
 ghost use mathlib.Core.Path.{_≡_};
 ghost use Prim.Native.Nat.{_+_, _*_, _/_, _≤_};
 ghost use lib.ListN.{length};
-ghost use Rattle.reply.specs.Lay.{Put, over};
-ghost use Rattle.text.specs.Room.{fitting};
+ghost use Rattle.buffers.specs.Lay.{Put, over};
+ghost use Rattle.buffers.specs.Room.{fitting};
 ghost use Rattle.digits.specs.Digits.{allDigits};
 ghost use Rattle.digits.specs.Hex.{pairs, hexOf, bytesOf, hexRead, hexLaid};
 use super::number::glyph;
 use super::number::is_digit;
 use super::number::worth;
+use buffers::has_room;
+use buffers::put;
 use strings::same;
-use text::has_room;
-use text::put;
 
 // The bytes that a word writes, by their number.
 pub enum Taken {

@@ -2,10 +2,10 @@
 ghost use mathlib.Core.Path.{_≡_};
 ghost use Prim.Native.Nat.{_+_, _*_, _≤_, _<_};
 ghost use lib.ListN.{length};
-ghost use Rattle.reply.specs.Lay.{Put};
-ghost use Rattle.text.specs.Room.{fitting};
+ghost use Rattle.buffers.specs.Lay.{Put};
+ghost use Rattle.buffers.specs.Room.{fitting};
 ghost use Rattle.digits.specs.Digits.{glyph as Digits·glyph, worth as Digits·worth, isDigit, baseOf, digits, places as Digits·places, decimal, grown, numberOf};
-use text::has_room;
+use buffers::has_room;
 
 pub enum Radix {
     Ten,

@@ -1,13 +1,12 @@
 -- What may be relied on of what a command asks: what is named is within document 01's limits, and kind and ask agree.
 -- Assumes nothing.
 use Prim.Native.Nat.{ℕ, _≤_}
-use native.Mathlib.Omega.{arith}
 use mathlib.Core.Path.{_≡_, refl, subst}
 use mathlib.Core.Bool.{Bool, true, false, cond, _&&_}
 use mathlib.Core.List.{List}
 use lib.Dec.{eqb}
 use lib.ListN.{length, drop, getD}
-use Rattle.laws.proofs.Bools.{of-both}
+use Rattle.laws.proofs.Bools.{true-false, of-both}
 use Rattle.objects.specs.Objects.{part, objectsIn, foundIn}
 use Rattle.objects.specs.Chain.{taken, any}
 use Rattle.objects.proofs.Chain.{taken-all, answered-all}
@@ -28,7 +27,7 @@ use Rattle.rights.specs.declared.Granted.the-variants.{These, NoRights}
 use Rattle.run.specs.Run.{rightsNamed}
 use Rattle.run.specs.declared.Choice.{Choice}
 use Rattle.run.specs.declared.Choice.the-variants.{Mrz, Can, CanFor, Pin, PinFor, Puk}
-use Rattle.certificate.specs.Body.{signedOf, isSignature}
+use Rattle.certificate.specs.Body.{taMechanism, isSignature, signedOf}
 use Rattle.status.specs.declared.Intake.{Intake}
 use Rattle.status.specs.declared.Intake.the-variants.{Accepted as WasRead, Unfit}
 use Rattle.certificate.proofs.Good.{signed-good}
@@ -37,12 +36,13 @@ use Rattle.command.specs.declared.kind.Kind.{Kind}
 use Rattle.command.specs.declared.kind.Kind.the-variants.{ChoosePassword, General as KindGeneral, SelectIssuer, VerifyCertificate, Announce as KindAnnounce, Challenge as KindChallenge, ProveTerminal, ChooseChipKey as KindChip, Read as KindRead, ChangePin as KindPin, Unblock as KindUnblock, Activate as KindActivate, Deactivate as KindDeactivate}
 use Rattle.command.specs.declared.Shape.{Shape}
 use Rattle.command.specs.declared.Shape.the-variants.{Command, Faulty}
+use Rattle.command.proofs.Groups.{GroupIn, ShapeIn, shape-in}
 use Rattle.fields.specs.Taking.{reading, lastly, isAll, sized, holds}
 use Rattle.fields.specs.Given.{only, bad, selecting, verifying, announcing}
 use Rattle.fields.specs.Choice.{pace, chosen, chosenBy, rightsThen, passwordThen, protocolThen, choiceOf}
 use Rattle.fields.specs.Held.{heldIn, generalOf}
 use Rattle.fields.specs.Issuers.{selectOf, verified, verifyOf}
-use Rattle.fields.specs.Announce.{terminal, pastAuxiliary, keyThen, auxiliaryThen, terminalThen, announceOf}
+use Rattle.fields.specs.Announce.{pastAuxiliary, keyThen, auxiliaryThen, terminalThen, announceOf}
 use Rattle.fields.specs.Announce as announce
 use Rattle.fields.specs.Chip.{chip, referenceIn, chipOf}
 use Rattle.fields.specs.Plain.{proofOf, pinOf}
@@ -54,7 +54,6 @@ use Rattle.fields.specs.declared.asked.Ask.{Ask}
 use Rattle.fields.specs.declared.asked.Ask.the-variants.{Bad, Choose, General, Select, Verify, Announce, Challenge, Prove, ChooseChipKey, Read, ChangePin, Unblock, Activate, Deactivate}
 use Rattle.fields.specs.declared.asked.Request.the-variants.{Asks}
 use Rattle.fields.specs.declared.given.Given.{Given}
-use Rattle.fields.proofs.Groups.{GroupIn, ShapeIn, shape-in}
 
 -- a kind, and what a command of that kind may ask
 pub data Of : Kind → Ask → Type 0 where
@@ -130,7 +129,7 @@ choose-sound : (c : Choice) → RightsIn c → Chooses (Choose c)
 choose-sound c h = only-sound ChoosePassword (Choose c) of-choose h
 
 no-rights : (c : Choice) → rightsNamed c ≡ NoRights → RightsIn c
-no-rights c e r f = absurd (let z : _≡_ {A = ℕ} 0 1 = cc in omega arith)
+no-rights c e r f = true-false cc
 
 these-rights : (c : Choice) (r : Rights) → rightsNamed c ≡ These r → rightsFit r ≡ true → RightsIn c
 these-rights c r e h q f = let i : r ≡ q = cc in subst (λ (x : Rights). rightsFit x ≡ true) i h
@@ -240,7 +239,7 @@ announce-sound : (s : List ℕ) → Sound KindAnnounce (announceOf s)
 unfolding announceOf announce.protocolThen terminalThen auxiliaryThen
 announce-sound s =
     reading-all bad (Sound KindAnnounce) (sound-bad KindAnnounce) s (announce.protocolThen s)
-    (taken-all bad (Sound KindAnnounce) (sound-bad KindAnnounce) 0x80 false (isAll terminal) s (λ c e. terminalThen)
+    (taken-all bad (Sound KindAnnounce) (sound-bad KindAnnounce) 0x80 false (isAll taMechanism) s (λ c e. terminalThen)
     (λ a e h. taken-all bad (Sound KindAnnounce) (sound-bad KindAnnounce) 0x83 false isName (drop e s) (λ c e. auxiliaryThen (nameOf c))
     (λ b f i. key-sound (nameOf (part b f (drop e s))) (name-good (part b f (drop e s)) i)
     (pastAuxiliary (drop f (drop e s)) (foundIn 0x67 true (drop f (drop e s)))))))
@@ -269,7 +268,7 @@ module _ (s : List ℕ) (k : Kind) (b : Bool) (x : Ask) (e : askedOf s .request 
   asked-sound = go (shapeOf s) (shape-in s) e
     where
       go : (h : Shape) → ShapeIn h → askedBy s h .request ≡ Asks k b x → Of k x × Within x (askedBy s h .name) (askedBy s h .point) (askedBy s h .key)
-      go (Faulty f) i q = absurd (let z : _≡_ {A = ℕ} 0 1 = cc in omega arith)
+      go (Faulty f) i q = true-false cc
       go (Command j c m n) i q =
           let g = data-sound j i (part m n s) in
           let u : j ≡ k = cc in
@@ -284,21 +283,3 @@ module _ (s : List ℕ) (k : Kind) (b : Bool) (x : Ask) (e : askedOf s .request 
   -- what is named is within its limits
   pub within-limits : Within x (askedOf s .name) (askedOf s .point) (askedOf s .key)
   within-limits = asked-sound .1
-
--- ---- ask by ask
-
-module _ (s : List ℕ) (k : Kind) (b : Bool) where
-  pub select-good : askedOf s .request ≡ Asks k b Select → nameFits (askedOf s .name) ≡ true
-  select-good e = within-limits s k b Select e
-
-  pub verify-good : askedOf s .request ≡ Asks k b Verify → (pointFits (askedOf s .point) ≡ true) × (nameFits (askedOf s .name) ≡ true)
-  verify-good e = within-limits s k b Verify e
-
-  pub announce-good : askedOf s .request ≡ Asks k b Announce → (keyFits (askedOf s .key) ≡ true) × (keyStands (askedOf s .key) ≡ true) × (nameFits (askedOf s .name) ≡ true)
-  announce-good e = within-limits s k b Announce e
-
-  pub rights-fit : (c : Choice) → askedOf s .request ≡ Asks k b (Choose c) → (r : Rights) → rightsNamed c ≡ These r → rightsFit r ≡ true
-  rights-fit c e = within-limits s k b (Choose c) e
-
-  pub group-in : (n : ℕ) → askedOf s .request ≡ Asks k b (Read n) → (1 ≤ n) × (n ≤ 21)
-  group-in n e = within-limits s k b (Read n) e

@@ -1,5 +1,4 @@
 pub mod Links
 pub mod Ways
-pub mod Groups
 pub mod Facts
 pub mod Examples

@@ -8,7 +8,7 @@ use mathlib.Core.List.{List}
 use borrow.Author.Tests.{eq-eqb, ne-eqb, eqb-true, eqb-false, le-leb}
 use lib.Dec.{eqb}
 use lib.ListN.{length, drop, length-drop}
-use Rattle.laws.proofs.Bools.{true-false}
+use Rattle.laws.proofs.Bools.{true-false, picked-l, picked-r}
 use Rattle.laws.proofs.Lists.{from}
 use Rattle.objects.specs.Objects.{allowance, part, objects, objectsAt, foundIn}
 use Rattle.objects.specs.Chain.{counted, taken, takenBy, any}
@@ -28,25 +28,22 @@ module _ (t : ℕ) (w : Bool) (fits : List ℕ → Bool) (s : List ℕ) where
   unfolding fitted
   fitted-is a e = go (foundIn t w s)
     where
-      pick : (x y : ℕ) (b : Bool) → fits (part x y s) ≡ b → cond b (Content x y) Missing ≡ Content a e → (Content x y ≡ Content a e) × (fits (part a e s) ≡ true)
-      pick x y true q p = let i : x ≡ a = cc in let j : y ≡ e = cc in (p, rw (← i, ← j) q)
-      pick x y false q p = absurd (let z : _≡_ {A = ℕ} 0 1 = cc in omega arith)
-
       go : (f : Found) → fittedBy fits s f ≡ Content a e → (f ≡ Content a e) × (fits (part a e s) ≡ true)
-      go Missing p = absurd (let z : _≡_ {A = ℕ} 0 1 = cc in omega arith)
-      go (Content x y) p = pick x y (fits (part x y s)) refl p
+      go Missing p = true-false cc
+      go (Content x y) p =
+          let k = picked-l (fits (part x y s)) p (λ q. true-false cc) in
+          let c = k .1 in
+          let i : x ≡ a = cc in
+          let j : y ≡ e = cc in
+          (c, rw (← i, ← j) (k .0))
 
   fitted-not : {R : Type 0} (fail : R) (k : List ℕ → ℕ → List ℕ → ℕ → R) → fitted t w fits s ≡ Missing → taken fail t w fits s k ≡ (λ n. fail)
   unfolding fitted taken
   fitted-not fail k = go (foundIn t w s)
     where
-      pick : (x y : ℕ) (b : Bool) → cond b (Content x y) Missing ≡ Missing → cond b (k (part x y s) y (drop y s)) (λ n. fail) ≡ (λ n. fail)
-      pick x y true p = absurd (let z : _≡_ {A = ℕ} 0 1 = cc in omega arith)
-      pick x y false p = refl
-
       go : (f : Found) → fittedBy fits s f ≡ Missing → takenBy fail s fits k f ≡ (λ n. fail)
       go Missing p = refl
-      go (Content x y) p = pick x y (fits (part x y s)) p
+      go (Content x y) p = rw (picked-r (fits (part x y s)) p (λ q. true-false cc) .0)
 
 -- an object that nests fits, whatever it holds
 any-fits : (t : ℕ) (w : Bool) (s : List ℕ) → foundIn t w s ≡ fitted t w any s
@@ -59,12 +56,12 @@ any-fits t w s = go (foundIn t w s)
 
 pub last-is : (n : ℕ) (f : Found) (a e : ℕ) → lastOf n f ≡ Content a e → (f ≡ Content a e) × (e ≡ n)
 unfolding lastOf
-last-is n Missing a e p = absurd (let z : _≡_ {A = ℕ} 0 1 = cc in omega arith)
-last-is n (Content x y) a e p = go (eqb y n) refl p
-  where
-    go : (b : Bool) → eqb y n ≡ b → cond b (Content x y) Missing ≡ Content a e → (Content x y ≡ Content a e) × (e ≡ n)
-    go true q r = let j : y ≡ e = cc in (r, sym j ∙ eqb-true y n q)
-    go false q r = absurd (let z : _≡_ {A = ℕ} 0 1 = cc in omega arith)
+last-is n Missing a e p = true-false cc
+last-is n (Content x y) a e p =
+    let k = picked-l (eqb y n) p (λ q. true-false cc) in
+    let c = k .1 in
+    let j : y ≡ e = cc in
+    (c, sym j ∙ eqb-true y n (k .0))
 
 -- what follows the last object
 ended : (s : List ℕ) (e : ℕ) → e ≡ length s → length (drop e s) ≡ 0
@@ -80,19 +77,14 @@ module _ {R : Type 0} (fail : R) (t : ℕ) (w : Bool) (fits : List ℕ → Bool)
   unfolding lastly lastOf
   lastly-not = go (fitted t w fits s) refl
     where
-      more : (a e : ℕ) → fitted t w fits s ≡ Content a e → (b : Bool) → eqb e (length s) ≡ b → cond b (Content a e) Missing ≡ Missing
-          → taken fail t w fits s (λ c e r n. cond (eqb (length r) 0) (k c) fail) ≡ (λ n. fail)
-      more a e q true i p = absurd (let z : _≡_ {A = ℕ} 0 1 = cc in omega arith)
-      more a e q false i p =
+      go : (f : Found) → fitted t w fits s ≡ f → lastOf (length s) f ≡ Missing → taken fail t w fits s (λ c e r n. cond (eqb (length r) 0) (k c) fail) ≡ (λ n. fail)
+      go Missing q p = fitted-not t w fits s fail (λ c e r n. cond (eqb (length r) 0) (k c) fail) q
+      go (Content a e) q p =
           let f = fitted-is t w fits s a e q in
           let z = found-sizes t w s a e (f .0) in
           let l = length-drop e s in
-          let n = eqb-false e (length s) i in
+          let n = eqb-false e (length s) (picked-r (eqb e (length s)) p (λ m. true-false cc) .0) in
           rw (taken-is fail 0 0 s t fits (λ c e r n. cond (eqb (length r) 0) (k c) fail) w a e (f .0) (f .1), ne-eqb (length (drop e s)) 0 (λ m. n (omega arith)))
-
-      go : (f : Found) → fitted t w fits s ≡ f → lastOf (length s) f ≡ Missing → taken fail t w fits s (λ c e r n. cond (eqb (length r) 0) (k c) fail) ≡ (λ n. fail)
-      go Missing q p = fitted-not t w fits s fail (λ c e r n. cond (eqb (length r) 0) (k c) fail) q
-      go (Content a e) q p = more a e q (eqb e (length s)) refl p
 
 -- ---- an answer that was counted: the failure, or one for which few objects stand
 

@@ -2,7 +2,7 @@
 -- `..Then` takes one object and hands the rest to the one that stands above it: read from `announceOf` upwards.
 -- Assumes nothing: these are definitions.
 use Prim.Native.Nat.{ℕ}
-use mathlib.Core.List.{List, [], _∷_}
+use mathlib.Core.List.{List}
 use mathlib.Core.Bool.{true, false}
 use lib.ListN.{drop}
 use Rattle.objects.specs.Objects.{foundIn}
@@ -11,14 +11,11 @@ use Rattle.objects.specs.declared.Found.{Found}
 use Rattle.objects.specs.declared.Found.the-variants.{Content, Missing}
 use Rattle.names.specs.Names.{isName, nameOf}
 use Rattle.keys.specs.Keys.{isKey, keyOf}
+use Rattle.certificate.specs.Body.{taMechanism}
 use Rattle.names.specs.declared.Name.{Name}
 use Rattle.fields.specs.Taking.{reading, lastly, isAll}
 use Rattle.fields.specs.Given.{bad, announcing}
 use Rattle.fields.specs.declared.given.Given.{Given}
-
--- 04 00 7F 00 07 02 02 02 02 03
-abbrev pub terminal : List ℕ
-terminal = 0x04 ∷ 0x00 ∷ 0x7F ∷ 0x00 ∷ 0x07 ∷ 0x02 ∷ 0x02 ∷ 0x02 ∷ 0x02 ∷ 0x03 ∷ []
 
 -- 91 compressed key (1 to 66 bytes)
 unfoldable pub keyThen : Name → List ℕ → ℕ → Given
@@ -38,7 +35,7 @@ terminalThen s = taken bad 0x83 false isName s (λ c e. auxiliaryThen (nameOf c)
 
 -- 80
 unfoldable pub protocolThen : List ℕ → ℕ → Given
-protocolThen s = taken bad 0x80 false (isAll terminal) s (λ c e. terminalThen)
+protocolThen s = taken bad 0x80 false (isAll taMechanism) s (λ c e. terminalThen)
 
 unfoldable pub announceOf : List ℕ → Given
 announceOf s = reading bad s (protocolThen s)

@@ -13,12 +13,11 @@ use super::taking::identified;
 use super::taking::last;
 use super::taking::named;
 use super::taking::sized;
+use certificate::MECHANISM;
 use keys::Key;
 use names::Name;
 use objects::Count;
 use objects::Found;
-
-const TERMINAL: [u8; 10] = [4, 0, 0x7F, 0, 7, 2, 2, 2, 2, 3];
 
 // 91 with a key.
 fn keyed(s: &[u8]) -> Found
@@ -70,7 +69,9 @@ fn from_terminal(s: &[u8]) -> Given
 pub(crate) fn announce(s: &[u8]) -> Given
     ensures { λ r. ⌜ r ≡ announceOf (now (s .entry)) ⌝ }
 {
-    let Found::Content { start: _, end } = identified(s, &TERMINAL) else {
+    // Without 06 and its length.
+    let id = MECHANISM;
+    let Found::Content { start: _, end } = identified(s, &id[2..]) else {
         return Given::only(Ask::Bad);
     };
     from_terminal(&s[end..])

@@ -1,7 +1,7 @@
 // What lies on the desk, and all that is done with it.
 ghost use mathlib.Core.Path.{_≡_};
 ghost use lib.ListN.{length};
-ghost use Rattle.reply.specs.Lay.{Written};
+ghost use Rattle.buffers.specs.Lay.{Written};
 ghost use Rattle.token.specs.Step.{stepOf};
 ghost use Rattle.laid.specs.Moves.{emptyDesk, laidOf, resetDesk, steppedDesk};
 use course::Note;

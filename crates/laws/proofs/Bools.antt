@@ -32,6 +32,15 @@ pub of-both : {A : Type 0} (P : A → Type 0) (b : Bool) {x y : A} → P x → P
 of-both P true p q = p
 of-both P false p q = q
 
+-- what was picked was not the other: so the test says which it was
+pub picked-l : {A : Type 0} (b : Bool) {x y z : A} → cond b x y ≡ z → (y ≡ z → ⊥) → (b ≡ true) × (x ≡ z)
+picked-l true e n = (refl, e)
+picked-l false e n = absurd (n e)
+
+pub picked-r : {A : Type 0} (b : Bool) {x y z : A} → cond b x y ≡ z → (x ≡ z → ⊥) → (b ≡ false) × (y ≡ z)
+picked-r true e n = absurd (n e)
+picked-r false e n = (refl, e)
+
 -- all of several tests
 pub and-5 : (a b c d e : Bool) → a && b && c && d && e ≡ true → (a ≡ true) × (b ≡ true) × (c ≡ true) × (d ≡ true) × (e ≡ true)
 and-5 a b c d e h =

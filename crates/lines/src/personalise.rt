@@ -1,10 +1,10 @@
 // A token made anew.
 ghost use mathlib.Core.Path.{_≡_};
 ghost use Rattle.laid.specs.Moves.{laidOf, Made};
+use buffers::put;
 use laid::Desk;
 use laid::Turn;
 use status::Intake;
-use text::put;
 use token::state::Personalised;
 use token::state::Token;
 use wording::expected::refused;

@@ -1,16 +1,11 @@
 // The order of each command's own checks: ladders over tests, each rung a condition and its refusal, top to bottom.
 ghost use mathlib.Core.Path.{_≡_};
 ghost use Rattle.order.specs.Order.{chooseLadder, verifyLadder, grounded, unblockLadder};
-ghost use Prim.Native.Nat.{_-_};
 use course::Course;
 use course::Job;
 use event::Event;
-use event::Issuer;
 use event::Refusal;
-use rights::Rights;
-use roles::Role;
 use run::Choice;
-use run::Step;
 
 // Choose password: what is asked of the PIN and the PUK.
 pub fn choose(

@@ -1,4 +1,4 @@
--- The ways' ways, over plain values. Assumes nothing.
+-- The ways out of a step and of a certificate. Assumes nothing.
 use borrow.Author.Needs.{needs}
 use Prim.Native.Nat.{ℕ, _-_}
 use mathlib.Core.Bool.{Bool, true, false}
@@ -10,7 +10,7 @@ use Rattle.run.specs.declared.Password.{Password}
 use Rattle.run.specs.declared.Step.{Step}
 use Rattle.run.specs.Run.{passwordOf, isPin, isLast}
 use Rattle.event.specs.declared.Event.{Event}
-use Rattle.event.specs.declared.Event.the-variants.{StepPassed, Opened, RunClosed, TrialLost}
+use Rattle.event.specs.declared.Event.the-variants.{StepPassed, Opened, TrialLost}
 use Rattle.outcome.specs.Outcome.{passedEvent, trialOf, otherEvent, takenEvent}
 
 module _ (c : Choice) (p : Step) (l : Bool) (e : l ≡ isLast p) where
@@ -23,17 +23,11 @@ module _ (c : Choice) (p : Step) (l : Bool) (e : l ≡ isLast p) where
   pub other-last : (pin : ℕ) (x : Event) → l ≡ true → x ≡ trialOf c pin → x ≡ otherEvent c p pin
   other-last pin x h z = rw (← e, h) z
 
-  pub other-other : (pin : ℕ) → l ≡ false → RunClosed ≡ otherEvent c p pin
-  other-other pin h = rw (← e, h)
-
 module _ (c : Choice) (pin : ℕ) (w : Password) (b : Bool) (e : w ≡ passwordOf c) (f : b ≡ isPin w) where
   pub trial-pin : (k : ℕ) → k ≡ pin - 1 → b ≡ true → TrialLost k ≡ trialOf c pin
   trial-pin k g h = rw (g, ← e, ← f, h)
 
-  pub trial-other : b ≡ false → RunClosed ≡ trialOf c pin
-  trial-other h = rw (← e, ← f, h)
-
 pub taken-arm : (trusted : Rights) (x d : Role) (r : Event) → x ≡ d → r ≡ takenEvent d trusted → r ≡ takenEvent x trusted
 taken-arm trusted x d r e z = z ∙ ap (λ (y : Role). takenEvent y trusted) (sym e)
 
-pub ruleset ways = (passed-last, passed-other, other-last, other-other, trial-pin, trial-other, taken-arm, needs)
+pub ruleset ways = (passed-last, passed-other, other-last, trial-pin, taken-arm, needs)

@@ -19,7 +19,7 @@ pub fn passed(choice: Choice, step: Step) -> Event
     Event::StepPassed(choice, step)
 }
 
-// A counter after one try.
+// One less, and 0 of 0.
 pub fn less_one(n: u8) -> u8
     ensures { λ r. ⌜ r ≡ n - 1 ⌝ }
 {

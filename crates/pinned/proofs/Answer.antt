@@ -6,7 +6,7 @@ use lib.ListN.{length}
 use Rattle.laws.proofs.Pinned.{pinned}
 use Rattle.event.specs.declared.Event.{Event}
 use Rattle.trust.specs.declared.Points.{Points}
-use Rattle.reply.specs.Lay.{Written}
+use Rattle.buffers.specs.Lay.{Written}
 use Rattle.answer.specs.Answer.{replyTo}
 
 -- the length and the buffer at exit

@@ -6,7 +6,7 @@ use lib.ListN.{length}
 use Rattle.laws.proofs.Pinned.{Pinned, pinned}
 use Rattle.course.specs.declared.Note.{Note}
 use Rattle.settle.specs.declared.Answered.{Answered}
-use Rattle.reply.specs.Lay.{Written}
+use Rattle.buffers.specs.Lay.{Written}
 use Rattle.token.specs.Step.{stepOf}
 use Rattle.token.specs.declared.state.Personalised.{Personalised}
 use Rattle.laid.specs.Moves.{emptyDesk, laidOf, resetDesk, steppedDesk}

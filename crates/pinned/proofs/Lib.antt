@@ -1,4 +1,5 @@
 pub mod Answer
+pub mod Buffers
 pub mod Certificate
 pub mod Checks
 pub mod Command

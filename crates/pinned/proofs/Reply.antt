@@ -7,7 +7,7 @@ use lib.ListN.{length}
 use Rattle.laws.proofs.Pinned.{pinned}
 use Rattle.names.specs.declared.Name.{Name}
 use Rattle.reply.specs.declared.Layout.{Layout}
-use Rattle.reply.specs.Lay.{Written}
+use Rattle.buffers.specs.Lay.{Written}
 use Rattle.reply.specs.Reply.{replyOf}
 
 pub reply-pinned : (layout : Layout) (word : ℕ) (first out : List ℕ) (newest previous : Name) (two : Bool) (r q : ℕ) (o p : List ℕ)

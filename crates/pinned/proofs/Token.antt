@@ -15,7 +15,7 @@ use Rattle.course.specs.declared.Job.{Job}
 use Rattle.course.specs.declared.Plan.{Plan}
 use Rattle.settle.specs.declared.Answered.{Answered}
 use Rattle.trust.specs.Trust.{onePoint, twoPoints}
-use Rattle.reply.specs.Lay.{Written}
+use Rattle.buffers.specs.Lay.{Written}
 use Rattle.token.specs.State.{noToken, madeOf, resetOf}
 use Rattle.token.specs.Limits.{inLimits}
 use Rattle.token.specs.Plan.{planOf}

@@ -1,5 +1,5 @@
 -- The short records, computed on both sides, and the rule alone on facts made by hand. Assumes nothing.
-use Rattle.certificate.specs.Body.{unread, isPublicKey, isSignature, extThen, lastThen, firstThen, rightsThen, ownThen, keyThen, issuerThen, versionThen, wholeOf, bodyOf, signedWhole, signedOf, keyObjects, isSigned}
+use Rattle.certificate.specs.Body.{unread, isPublicKey, isSignature, extThen, lastThen, firstThen, rightsThen, ownThen, keyThen, issuerThen, versionThen, bodyThen, bodyOf, signedOf, keyObjects, isSigned}
 use Rattle.command.specs.Form.{afterShort, afterLong, dataThen, extendedOf, afterFour, afterHeader, formOf}
 use Rattle.command.specs.Kind.{kindOf}
 use Rattle.command.specs.Shape.{headedOf, shapeOf}
@@ -20,7 +20,7 @@ use Rattle.objects.specs.Objects.{secondTagByte, tagOf, lengthAfter81, lengthAf
 use Rattle.record.specs.Entries.{prescribed, after}
 use Rattle.record.specs.Rule.{readable}
 use Rattle.reply.specs.Bytes.{lengthBytes, object as object·Bytes·reply}
-use Rattle.reply.specs.Lay.{over}
+use Rattle.buffers.specs.Lay.{over}
 use Rattle.reply.specs.Reply.{dataOf as dataOf·Reply·reply, replyOf}
 use Rattle.authorization.specs.Authorization.{sharedBy, authorization}
 use Rattle.bounds.specs.Bounds.{trustedFits, dvFits, terminalFits, chainFits, groundFits, contextFits}
@@ -47,7 +47,7 @@ use Rattle.record.specs.Worked.{AllWorked}
 use Rattle.record.specs.Judged.{AllJudged}
 
 pub all-worked : AllWorked
-unfolding unread isPublicKey isSignature extThen lastThen firstThen rightsThen ownThen keyThen issuerThen versionThen wholeOf bodyOf signedWhole signedOf keyObjects isSigned afterShort afterLong dataThen extendedOf afterFour afterHeader formOf kindOf headedOf shapeOf settledBy awaitsBy wordOf endsBy passesBy judgedOf awaitedOf courseOf keyThen·Announce·fields auxiliaryThen terminalThen protocolThen announceOf dataOf refusing asking askedOf referenceIn chipOf chosenBy rightsThen·Choice·fields passwordThen protocolThen·Choice·fields choiceOf only selecting verifying announcing heldIn generalOf selectOf verified verifyOf proofOf pinOf reading lastly fitted lastOf holds counted taken secondTagByte tagOf lengthAfter81 lengthAfter82 lenOf headerOf objectsOf objects object objectsIn foundIn prescribed after readable lengthBytes object·Bytes·reply over dataOf·Reply·reply replyOf sharedBy authorization trustedFits dvFits terminalFits chainFits groundFits contextFits momentOf noChain choiceTaken staged stepPassed opened runClosed trialLost issuerSelected linkTaken dvTaken terminalTaken announced unblocked unblockedByPuk afterOf selectPlan repeats late underCourse underPlan verifyPlan choosePlan runPlan chipPlan generalPlan announcePlan readPlan changePlan unblockPlan activePlan inLimits commandOf timedOf requestedOf guarded planOf resetOf startOf noToken madeOf layoutOf replyTo stepOf trustPointFits onePoint twoPoints pointsFit knows found linked copiedInto isDate dayFits isDay dated before later isKey keyOf noKey keyIs keyFits keyStands isName nameOf noName nameFits sameName noPoint pointFits expired withKey rightsFit roleOf isRights granted andOf common groupMask readsGroup number
+unfolding unread isPublicKey isSignature extThen lastThen firstThen rightsThen ownThen keyThen issuerThen versionThen bodyThen bodyOf signedOf keyObjects isSigned afterShort afterLong dataThen extendedOf afterFour afterHeader formOf kindOf headedOf shapeOf settledBy awaitsBy wordOf endsBy passesBy judgedOf awaitedOf courseOf keyThen·Announce·fields auxiliaryThen terminalThen protocolThen announceOf dataOf refusing asking askedOf referenceIn chipOf chosenBy rightsThen·Choice·fields passwordThen protocolThen·Choice·fields choiceOf only selecting verifying announcing heldIn generalOf selectOf verified verifyOf proofOf pinOf reading lastly fitted lastOf holds counted taken secondTagByte tagOf lengthAfter81 lengthAfter82 lenOf headerOf objectsOf objects object objectsIn foundIn prescribed after readable lengthBytes object·Bytes·reply over dataOf·Reply·reply replyOf sharedBy authorization trustedFits dvFits terminalFits chainFits groundFits contextFits momentOf noChain choiceTaken staged stepPassed opened runClosed trialLost issuerSelected linkTaken dvTaken terminalTaken announced unblocked unblockedByPuk afterOf selectPlan repeats late underCourse underPlan verifyPlan choosePlan runPlan chipPlan generalPlan announcePlan readPlan changePlan unblockPlan activePlan inLimits commandOf timedOf requestedOf guarded planOf resetOf startOf noToken madeOf layoutOf replyTo stepOf trustPointFits onePoint twoPoints pointsFit knows found linked copiedInto isDate dayFits isDay dated before later isKey keyOf noKey keyIs keyFits keyStands isName nameOf noName nameFits sameName noPoint pointFits expired withKey rightsFit roleOf isRights granted andOf common groupMask readsGroup number
 all-worked = ((refl, refl), (refl, refl), (refl, refl), (refl, refl), (refl, refl), (refl, refl), (refl, refl), (refl, refl))
 
 pub all-judged : AllJudged

@@ -11,7 +11,7 @@ use Rattle.token.specs.declared.state.Token.{Token}
 use Rattle.status.specs.declared.Intake.the-variants.{Accepted}
 use Rattle.token.specs.State.{resetOf, madeOf}
 use Rattle.token.specs.Step.{stepOf}
-use Rattle.reply.specs.Lay.{Written}
+use Rattle.buffers.specs.Lay.{Written}
 use Rattle.record.specs.Entries.{Exchange, Entry, Reset, Sent, after, reached}
 use Rattle.record.specs.Claim.{begun, ReadsNow, recordSays, Answers}
 use Rattle.record.proofs.Decide.{claim-bytes}

@@ -5,13 +5,14 @@ use mathlib.Core.Path.{_≡_, refl, _∙_}
 use mathlib.Core.List.{List, [], _++_}
 use borrow.Author.Tests.{lt-ltb, le-ltb}
 use lib.ListN.{length, drop}
+use Rattle.strings.specs.Bytes.{longest}
 use Rattle.names.specs.declared.Name.{Name}
+use Rattle.buffers.specs.Lay.{over, Written}
+use Rattle.buffers.proofs.Laying.{over-first}
 use Rattle.reply.specs.declared.Layout.{Layout}
 use Rattle.reply.specs.declared.Layout.the-variants.{Bare}
-use Rattle.reply.specs.Lay.{over, Written}
 use Rattle.reply.specs.Bytes.{wordBytes}
-use Rattle.reply.specs.Reply.{room, string, dataOf, silent, replyOf}
-use Rattle.reply.proofs.Laying.{over-first}
+use Rattle.reply.specs.Reply.{room, dataOf, silent, replyOf}
 
 module _ (layout : Layout) (word : ℕ) (first o₀ : List ℕ) (newest previous : Name) (two : Bool) where
   pub no-room : length o₀ < room → Written (replyOf (length o₀) layout word first newest previous two) o₀ o₀ 0
@@ -19,11 +20,11 @@ module _ (layout : Layout) (word : ℕ) (first o₀ : List ℕ) (newest previous
   no-room h = rw (lt-ltb _ _ h) (refl, refl)
 
   module _ (l : room ≤ length o₀) where
-    pub too-long : string < length first → Written (replyOf (length o₀) layout word first newest previous two) o₀ o₀ 0
+    pub too-long : longest < length first → Written (replyOf (length o₀) layout word first newest previous two) o₀ o₀ 0
     unfolding replyOf
     too-long h = rw (le-ltb _ _ l, lt-ltb _ _ h) (refl, refl)
 
-    module _ (m : length first ≤ string) where
+    module _ (m : length first ≤ longest) where
       pub arm : (d : Layout) (r : ℕ) (o₁ : List ℕ) → layout ≡ d
           → r ≡ length (cond (silent d) [] (dataOf d first newest previous two ++ wordBytes word))
           → o₁ ≡ cond (silent d) [] (dataOf d first newest previous two ++ wordBytes word) ++ drop (length (cond (silent d) [] (dataOf d first newest previous two ++ wordBytes word))) o₀

@@ -1,4 +1,3 @@
-pub mod Laying
 pub mod Pieces
 pub mod Answers
 pub mod Examples

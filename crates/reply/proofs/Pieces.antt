@@ -1,20 +1,20 @@
 -- Objects and replies from the pieces that the writers put. Assumes nothing.
-use Prim.Native.Nat.{ℕ, zero, suc, _+_, _-_, _≤_, _<_, min}
-use native.Mathlib.Nat.{zero-min, min-zero, suc-min-suc}
+use Prim.Native.Nat.{ℕ, _+_, _-_, _≤_, _<_, min}
 use mathlib.Core.Bool.{Bool, true, false}
-use mathlib.Core.Path.{_≡_, sym, ap, _∙_}
+use mathlib.Core.Path.{_≡_, refl, sym, ap, _∙_}
 use mathlib.Core.List.{List, [], _∷_, _++_}
 use native.Mathlib.Omega.{arith}
 use lib.ListN.{length, take, drop, length-append, length-drop}
-use lib.Seq.{length-take-le}
 use borrow.Author.Tests.{lt-ltb, le-ltb}
-use Rattle.laws.proofs.Lists.{clip-long, take-clip, take-min, from}
+use Rattle.laws.proofs.Lists.{clip-long, take-clip, drop-min, from}
+use Rattle.strings.specs.Bytes.{longest}
 use Rattle.names.specs.Names.{places, nameBytes}
 use Rattle.names.specs.declared.Name.{Name}
-use Rattle.reply.specs.Lay.{over, Put, Written}
+use Rattle.buffers.specs.Lay.{over, Put, Written}
+use Rattle.buffers.specs.Room.{fitting}
+use Rattle.buffers.proofs.Laying.{over-first, over-none, over-length, over-over, fitting-all}
 use Rattle.reply.specs.Bytes.{wordBytes, lengthBytes, header, object, sizeOf}
-use Rattle.reply.specs.Reply.{room, string, nonce, pointNames, nonceToken}
-use Rattle.reply.proofs.Laying.{over-first, over-none, over-length, over-over}
+use Rattle.reply.specs.Reply.{room, nonce, pointNames, nonceToken}
 
 -- ---- lengths
 
@@ -40,6 +40,10 @@ joined at k r s t o₀ o₁ o₂ e f g h l = (omega (arith, length-append s t), 
 renamed : (at r : ℕ) (s t o₀ o₁ : List ℕ) → s ≡ t → Put at s o₀ o₁ r → Put at t o₀ o₁ r
 renamed at r s t o₀ o₁ e p = rw e at p
 
+-- a piece that has room
+whole : (at r : ℕ) (s o₀ o₁ : List ℕ) → at + length s ≤ length o₀ → r ≡ at + length (fitting at s o₀) → o₁ ≡ over at (fitting at s o₀) o₀ → Put at s o₀ o₁ r
+whole at r s o₀ o₁ h e f = renamed at r (fitting at s o₀) s o₀ o₁ (fitting-all at s o₀ h) (e, f)
+
 -- from the buffer's start
 started : (r : ℕ) (s o₀ o₁ : List ℕ) → Put 0 s o₀ o₁ r → Written s o₀ o₁ r
 started r s o₀ o₁ p = (omega arith, p .1 ∙ over-first s o₀)
@@ -59,10 +63,17 @@ header-long at k r tag n o₀ o₁ o₂ l b e f g h =
     (joined at k r (tag ∷ 0x81 ∷ []) (n ∷ []) o₀ o₁ o₂ e f g h (omega arith))
 
 -- an object: its header, then its content
-pub object-put : (at k r tag : ℕ) (s o₀ o₁ o₂ : List ℕ) → at + 3 + length s ≤ length o₀ → k ≤ at + 3 → k ≡ at + length (header tag (length s)) → o₁ ≡ over at (header tag (length s)) o₀ → r ≡ k + length s → o₂ ≡ over k s o₁
-    → Put at (object tag s) o₀ o₂ r
-unfolding object
-object-put at k r tag s o₀ o₁ o₂ l b e f g h = joined at k r (header tag (length s)) s o₀ o₁ o₂ e f g h (omega arith)
+module _ (at k r : ℕ) (s o₀ o₁ o₂ : List ℕ) (l : at + 3 + length s ≤ length o₀) (b : k ≤ at + 3) (m : length o₁ ≡ length o₀)
+    (g : r ≡ k + length (fitting k s o₁)) (h : o₂ ≡ over k (fitting k s o₁) o₁) where
+  content : Put k s o₁ o₂ r
+  content = whole k r s o₁ o₂ (omega arith) g h
+
+  pub object-most : r ≤ at + 3 + length s
+  object-most = omega (arith, content .0)
+
+  pub object-put : (tag : ℕ) → k ≡ at + length (header tag (length s)) → o₁ ≡ over at (header tag (length s)) o₀ → Put at (object tag s) o₀ o₂ r
+  unfolding object
+  object-put tag e f = joined at k r (header tag (length s)) s o₀ o₁ o₂ e f (content .0) (content .1) (omega arith)
 
 -- the names: one alone, or two
 module _ (at k : ℕ) (newest previous : Name) (two : Bool) (o₀ o₁ : List ℕ) (l : at + 38 ≤ length o₀) (b : k ≤ at + 19) (e : k ≡ at + length (object 0x87 (nameBytes newest)))
@@ -94,31 +105,23 @@ module _ (at m : ℕ) (name : Name) (o₀ : List ℕ) (e : length (name .bytes) 
   name-size r f = f ∙ ap (λ (k : ℕ). sizeOf k) (sym cut ∙ ap length (take-clip (name .bytes) places (name .len) m e h))
 
 -- a string in two parts
-drop-min : (k : ℕ) (l : List ℕ) → drop (min k (length l)) l ≡ drop k l
-drop-min zero l = rw zero-min
-drop-min (suc k) [] = rw min-zero
-drop-min (suc k) (x ∷ xs) = rw (suc-min-suc k (length xs)) (drop-min k xs)
-
-module _ (k : ℕ) (s : List ℕ) (h : k ≡ min (length s) nonce) where
-  swap : k ≡ min nonce (length s)
-  swap = omega arith
-
+module _ (k : ℕ) (s : List ℕ) (h : k ≡ min nonce (length s)) where
   pub front-long : k ≡ length (take k s)
-  front-long = sym (length-take-le k s (omega arith))
+  front-long = clip-long s (length s) nonce k refl h
 
   front : take k s ≡ take nonce s
-  front = ap (λ (j : ℕ). take j s) swap ∙ take-min nonce s
+  front = take-clip s (length s) nonce k refl h
 
   back : take (length s - k) (drop k s) ≡ drop nonce s
-  back = from s k ∙ ap (λ (j : ℕ). drop j s) swap ∙ drop-min nonce s
+  back = from s k ∙ ap (λ (j : ℕ). drop j s) h ∙ drop-min nonce s
 
   back-long : length (take (length s - k) (drop k s)) ≡ length s - k
   back-long = ap length (from s k) ∙ length-drop k s
 
-  pub front-fits : length s ≤ string → length (take k s) < 256
+  pub front-fits : length s ≤ longest → length (take k s) < 256
   front-fits m = let f = front-long in omega arith
 
-  pub back-fits : length s ≤ string → length (take (length s - k) (drop k s)) < 256
+  pub back-fits : length s ≤ longest → length (take (length s - k) (drop k s)) < 256
   back-fits m = let d = back-long in omega arith
 
   module _ (at : ℕ) (o₀ : List ℕ) (l : at + 6 + length s ≤ length o₀) where
@@ -166,9 +169,15 @@ spoken : (a r w : ℕ) (s o₀ o₁ o₂ : List ℕ) → a ≤ length o₀ → a
     → Written (s ++ wordBytes w) o₀ o₂ r
 spoken a r w s o₀ o₁ o₂ l e f g h = started r (s ++ wordBytes w) o₀ o₂ (joined 0 a r s (wordBytes w) o₀ o₁ o₂ e f g h l)
 
-pub flat-said : (a r w : ℕ) (s o₀ o₁ o₂ : List ℕ) → room ≤ length o₀ → length s ≤ string → a ≡ 0 + length s → o₁ ≡ over 0 s o₀ → r ≡ a + 2 → o₂ ≡ over a (wordBytes w) o₁
-    → Written (s ++ wordBytes w) o₀ o₂ r
-flat-said a r w s o₀ o₁ o₂ l m e f g h = spoken a r w s o₀ o₁ o₂ (omega arith) e f g h
+module _ (a : ℕ) (s o₀ o₁ : List ℕ) (l : room ≤ length o₀) (m : length s ≤ longest) (e : a ≡ 0 + length (fitting 0 s o₀)) (f : o₁ ≡ over 0 (fitting 0 s o₀) o₀) where
+  flat-put : Put 0 s o₀ o₁ a
+  flat-put = whole 0 a s o₀ o₁ (omega arith) e f
+
+  pub flat-room : length o₁ ≡ length o₀ → a + 2 ≤ length o₁
+  flat-room q = omega (arith, flat-put .0)
+
+  pub flat-said : (r w : ℕ) (o₂ : List ℕ) → r ≡ a + 2 → o₂ ≡ over a (wordBytes w) o₁ → Written (s ++ wordBytes w) o₀ o₂ r
+  flat-said r w o₂ g h = spoken a r w s o₀ o₁ o₂ (omega (arith, flat-put .0)) (flat-put .0) (flat-put .1) g h
 
 -- 7C: its header, with the length that was reckoned; what it holds; the word
 module _ (n a r w : ℕ) (o₀ o₁ o₃ : List ℕ) (l : room ≤ length o₀) (ea : a ≡ 0 + length (header 0x7C n)) (fa : o₁ ≡ over 0 (header 0x7C n) o₀) where
@@ -179,15 +188,15 @@ module _ (n a r w : ℕ) (o₀ o₁ o₃ : List ℕ) (l : room ≤ length o₀) 
       let q = renamed 0 b (header 0x7C n ++ s) (object 0x7C s) o₀ o₂ (ap (λ (k : ℕ). header 0x7C k ++ s) e) p in
       spoken b r w (object 0x7C s) o₀ o₂ o₃ (omega arith) (q .0) (q .1) er fr
 
-  pub nest-said : (b tag : ℕ) (s o₂ : List ℕ) → length s ≤ string → a ≤ 0 + 3 → b ≤ a + 3 + length s → n ≡ sizeOf (length s) → b ≡ a + length (object tag s) → o₂ ≡ over a (object tag s) o₁
+  pub nest-said : (b tag : ℕ) (s o₂ : List ℕ) → length s ≤ longest → a ≤ 0 + 3 → b ≤ a + 3 + length s → n ≡ sizeOf (length s) → b ≡ a + length (object tag s) → o₂ ≡ over a (object tag s) o₁
       → r ≡ b + 2 → o₃ ≡ over b (wordBytes w) o₂ → Written (object 0x7C (object tag s) ++ wordBytes w) o₀ o₃ r
   nest-said b tag s o₂ m la lb e eb fb er fr = wrapped b (object tag s) o₂ (omega arith) (e ∙ sym (object-size tag s)) eb fb er fr
 
-  pub pair-said : (b : ℕ) (s o₂ : List ℕ) → length s ≤ string → a ≤ 0 + 3 → b ≤ a + 6 + length s → n ≡ length (nonceToken s) → b ≡ a + length (nonceToken s) → o₂ ≡ over a (nonceToken s) o₁
+  pub pair-said : (b : ℕ) (s o₂ : List ℕ) → length s ≤ longest → a ≤ 0 + 3 → b ≤ a + 6 + length s → n ≡ length (nonceToken s) → b ≡ a + length (nonceToken s) → o₂ ≡ over a (nonceToken s) o₁
       → r ≡ b + 2 → o₃ ≡ over b (wordBytes w) o₂ → Written (object 0x7C (nonceToken s) ++ wordBytes w) o₀ o₃ r
   pair-said b s o₂ m la lb e eb fb er fr = wrapped b (nonceToken s) o₂ (omega arith) e eb fb er fr
 
-  pub four-said : (b d i j : ℕ) (s o₂ o : List ℕ) (newest previous : Name) (two : Bool) → length s ≤ string → a ≤ 0 + 3 → b ≤ a + 3 + length s → d ≤ b + 38
+  pub four-said : (b d i j : ℕ) (s o₂ o : List ℕ) (newest previous : Name) (two : Bool) → length s ≤ longest → a ≤ 0 + 3 → b ≤ a + 3 + length s → d ≤ b + 38
       → i ≡ sizeOf (length s) → j ≡ length (pointNames newest previous two) → n ≡ i + j
       → b ≡ a + length (object 0x86 s) → o₂ ≡ over a (object 0x86 s) o₁ → d ≡ b + length (pointNames newest previous two) → o ≡ over b (pointNames newest previous two) o₂
       → r ≡ d + 2 → o₃ ≡ over d (wordBytes w) o → Written (object 0x7C (object 0x86 s ++ pointNames newest previous two) ++ wordBytes w) o₀ o₃ r

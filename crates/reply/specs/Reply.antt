@@ -15,10 +15,6 @@ use Rattle.reply.specs.declared.Layout.the-variants.{Silent, Bare, Flat,
 abbrev pub room : ℕ
 room = 258
 
--- no job's first string is longer
-abbrev pub string : ℕ
-string = longest
-
 -- the nonce's bytes in the chip key's "nonce and token together (16)"
 abbrev pub nonce : ℕ
 nonce = 8
@@ -51,9 +47,10 @@ silent Confirmed = false
 silent Pair = false
 
 -- 6F00: "nothing written, length 0". "All others write their data, then the two word bytes". `size` is the buffer's
+-- no job lets a first string over 140 through; it is answered with nothing, so that 258 bytes are always enough
 unfoldable pub replyOf : ℕ → Layout → ℕ → List ℕ → Name → Name → Bool → List ℕ
 replyOf size layout word first newest previous two =
     cond (ltb size room) []
-    (cond (ltb string (length first)) []
+    (cond (ltb longest (length first)) []
     (cond (silent layout) []
     (dataOf layout first newest previous two ++ wordBytes word)))

@@ -1,6 +1,6 @@
 // The bytes of a reply: the data of its layout, then the two bytes of its word.
 ghost use lib.ListN.{length};
-ghost use Rattle.reply.specs.Lay.{Written};
+ghost use Rattle.buffers.specs.Lay.{Written};
 ghost use Rattle.reply.specs.Reply.{replyOf};
 use names::Name;
 use strings::STRING;

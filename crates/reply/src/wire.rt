@@ -3,10 +3,11 @@ ghost use mathlib.Core.Path.{_≡_};
 ghost use mathlib.Core.List.{[], _∷_, _++_};
 ghost use Prim.Native.Nat.{_+_, _≤_, _<_};
 ghost use lib.ListN.{length};
+ghost use Rattle.strings.specs.Bytes.{longest};
 ghost use Rattle.names.specs.Names.{nameBytes};
-ghost use Rattle.reply.specs.Lay.{Put, Written};
+ghost use Rattle.buffers.specs.Lay.{Put, Written};
 ghost use Rattle.reply.specs.Bytes.{wordBytes, header, object, sizeOf};
-ghost use Rattle.reply.specs.Reply.{room, string, pointNames, nonceToken};
+ghost use Rattle.reply.specs.Reply.{room, pointNames, nonceToken};
 use names::Name;
 use strings::clip;
 
@@ -18,21 +19,9 @@ fn put(out: &mut [u8], at: usize, b: u8) -> usize
     requires { ⌜ at < length (now out) ⌝ }
     ensures { λ r. ⌜ Put at (b ∷ []) (now (out .entry)) (now (out .exit)) r ⌝ }
 {
+    let next = at + 1;
     out[at] = b;
-    at + 1
-}
-
-// The bytes of src.
-fn put_all(out: &mut [u8], at: usize, src: &[u8]) -> usize
-    requires { ⌜ at + length (now src) ≤ length (now out) ⌝ }
-    ensures { λ r. ⌜ Put at (now (src .entry)) (now (out .entry)) (now (out .exit)) r ⌝ }
-{
-    let mut i = 0;
-    while i < src.len() {
-        out[at + i] = src[i];
-        i += 1;
-    }
-    at + i
+    next
 }
 
 // Two bytes.
@@ -71,7 +60,7 @@ fn put_object(out: &mut [u8], at: usize, tag: u8, src: &[u8]) -> usize
 {
     let n = src.len() as u8;
     let content = put_header(&mut *out, at, tag, n);
-    put_all(&mut *out, content, src)
+    buffers::put(&mut *out, content, src)
 }
 
 // A data object that holds a name.
@@ -98,17 +87,17 @@ fn put_names(out: &mut [u8], at: usize, newest: Name, previous: Name, two: bool)
 
 // The chip key's nonce and token.
 fn put_pair(out: &mut [u8], at: usize, src: &[u8]) -> usize
-    requires { ⌜ (length (now src) ≤ string) × (at + 6 + length (now src) ≤ length (now out)) ⌝ }
+    requires { ⌜ (length (now src) ≤ longest) × (at + 6 + length (now src) ≤ length (now out)) ⌝ }
     ensures { λ r. ⌜ (r ≤ at + 6 + length (now (src .entry))) × Put at (nonceToken (now (src .entry))) (now (out .entry)) (now (out .exit)) r ⌝ }
 {
-    let k = clip(src.len(), NONCE);
+    let k = clip(NONCE, src.len());
     let next = put_object(&mut *out, at, 0x81, &src[..k]);
     put_object(&mut *out, next, 0x82, &src[k..])
 }
 
 // How long an object with so many bytes of content is: 7C's length is written before what it holds.
 fn size_of(n: usize) -> u8
-    requires { ⌜ n ≤ string ⌝ }
+    requires { ⌜ n ≤ longest ⌝ }
     ensures { λ r. ⌜ (r ≤ 3 + n) × (r ≡ sizeOf n) ⌝ }
 {
     if n < 128 {
@@ -137,25 +126,25 @@ fn size_names(newest: Name, previous: Name, two: bool) -> u8
 
 // The same of the chip key's nonce and token.
 fn size_pair(src: &[u8]) -> u8
-    requires { ⌜ length (now src) ≤ string ⌝ }
+    requires { ⌜ length (now src) ≤ longest ⌝ }
     ensures { λ r. ⌜ r ≡ length (nonceToken (now (src .entry))) ⌝ }
 {
-    let k = clip(src.len(), NONCE);
+    let k = clip(NONCE, src.len());
     size_of(k) + size_of(src.len() - k)
 }
 
 // The first string, and the word.
 pub(crate) fn flat(out: &mut [u8], word: u16, first: &[u8]) -> usize
-    requires { ⌜ (room ≤ length (now out)) × (length (now first) ≤ string) ⌝ }
+    requires { ⌜ (room ≤ length (now out)) × (length (now first) ≤ longest) ⌝ }
     ensures { λ r. ⌜ Written (now (first .entry) ++ wordBytes word) (now (out .entry)) (now (out .exit)) r ⌝ }
 {
-    let a = put_all(&mut *out, 0, first);
+    let a = buffers::put(&mut *out, 0, first);
     put_word(&mut *out, a, word)
 }
 
 // 7C holding one object, and the word.
 pub(crate) fn nest(out: &mut [u8], word: u16, tag: u8, first: &[u8]) -> usize
-    requires { ⌜ (room ≤ length (now out)) × (length (now first) ≤ string) ⌝ }
+    requires { ⌜ (room ≤ length (now out)) × (length (now first) ≤ longest) ⌝ }
     ensures { λ r. ⌜ Written (object 0x7C (object tag (now (first .entry))) ++ wordBytes word) (now (out .entry)) (now (out .exit)) r ⌝ }
 {
     let n = size_of(first.len());
@@ -173,7 +162,7 @@ pub(crate) fn confirmed(
     previous: Name,
     two: bool,
 ) -> usize
-    requires { ⌜ (room ≤ length (now out)) × (length (now first) ≤ string) ⌝ }
+    requires { ⌜ (room ≤ length (now out)) × (length (now first) ≤ longest) ⌝ }
     ensures { λ r. ⌜ Written (object 0x7C (object 0x86 (now (first .entry)) ++ pointNames newest previous two) ++ wordBytes word) (now (out .entry)) (now (out .exit)) r ⌝ }
 {
     let n = size_of(first.len()) + size_names(newest, previous, two);
@@ -185,7 +174,7 @@ pub(crate) fn confirmed(
 
 // 7C holding the chip key's nonce and token, and the word.
 pub(crate) fn pair(out: &mut [u8], word: u16, first: &[u8]) -> usize
-    requires { ⌜ (room ≤ length (now out)) × (length (now first) ≤ string) ⌝ }
+    requires { ⌜ (room ≤ length (now out)) × (length (now first) ≤ longest) ⌝ }
     ensures { λ r. ⌜ Written (object 0x7C (nonceToken (now (first .entry))) ++ wordBytes word) (now (out .entry)) (now (out .exit)) r ⌝ }
 {
     let n = size_pair(first);

@@ -22,7 +22,7 @@ use Rattle.settle.specs.declared.Answered.{Answered}
 use Rattle.settle.specs.declared.Happened.{Happened}
 use Rattle.run.specs.Run.{isLast}
 
--- "two byte strings (empty where none is named)": the lengths that a job names
+-- "one whose strings have other lengths than the job's (empty where none is named)": the lengths that a job names
 abbrev pub jobFits : Job → ℕ → ℕ → Bool
 jobFits Nothing a b = false
 -- "84 (1 to 140 bytes), 86 (8): the first string"

@@ -11,7 +11,7 @@ use Rattle.settle.specs.declared.Answered.{Answered}
 use Rattle.settle.specs.declared.Happened.{Happened}
 use Rattle.settle.specs.Settle.{settleOf}
 use Rattle.settle.proofs.Settles.{answer-in}
-use Rattle.reply.specs.Lay.{Written}
+use Rattle.buffers.specs.Lay.{Written}
 use Rattle.reply.specs.Reply.{room}
 use Rattle.answer.specs.Answer.{replyTo}
 use Rattle.token.specs.declared.state.Token.{Token}

@@ -1,7 +1,7 @@
 // One step: a buffer under 258 answers 6F00 at once; else plan, settle, after, reply.
 ghost use mathlib.Core.Path.{_≡_};
 ghost use lib.ListN.{length};
-ghost use Rattle.reply.specs.Lay.{Written};
+ghost use Rattle.buffers.specs.Lay.{Written};
 ghost use Rattle.token.specs.Step.{stepOf};
 use super::state::Token;
 use course::Note;

@@ -3,6 +3,7 @@ use super::BYTES;
 use super::expected::refused;
 use super::labelled;
 use super::stated::string;
+use buffers::put;
 use certificate::Body;
 use certificate::Place;
 use certificate::read_body;
@@ -10,7 +11,6 @@ use names::Name;
 use points::Point;
 use status::Intake;
 use text::front;
-use text::put;
 use words::count;
 use words::word;
 

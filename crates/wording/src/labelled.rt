@@ -1,4 +1,5 @@
 // Values as the desk writes them, each after its label; the place after them.
+use buffers::put;
 use days::Day;
 use digits::hex::put_hex;
 use digits::number::Radix;
@@ -7,7 +8,6 @@ use digits::number::put_digits;
 use names::Name;
 use rights::Rights;
 use text::front;
-use text::put;
 
 pub(crate) fn number(out: &mut [u8], at: usize, label: &[u8], n: u64) -> usize {
     let next = put(&mut *out, at, label);

@@ -1,5 +1,5 @@
 // The labels of a table, one to a line.
-use text::put;
+use buffers::put;
 use words::part;
 
 // Label k of a table; the place after it.

@@ -1,6 +1,7 @@
 // What a token keeps over a reset, and what it loses: its session.
 use super::labelled;
 use super::labels::label;
+use buffers::put;
 use days::Day;
 use event::Issuer;
 use rights::Granted;
@@ -11,7 +12,6 @@ use standing::Chain;
 use standing::Opened;
 use standing::Selected;
 use standing::Stage;
-use text::put;
 use trust::Points;
 
 fn counters(out: &mut [u8], pin: u8, active: bool, puk: u8) -> usize {

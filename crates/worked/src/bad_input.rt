@@ -5,10 +5,10 @@ use super::show::body;
 use super::show::heading;
 use super::show::number;
 use super::show::write;
+use buffers::put;
 use status::Intake;
 use text::front;
 use text::past;
-use text::put;
 
 pub fn section() {
     heading(b"bad input");

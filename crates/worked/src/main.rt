@@ -1,7 +1,7 @@
 // Shows the product at work, a section to a module. What it writes is held to the file stdout.
 mod bad_input;
-mod buffers;
 mod certificates;
+mod reply_buffers;
 mod show;
 mod status_words;
 mod told;
@@ -12,5 +12,5 @@ fn main() {
     bad_input::section();
     whole_session::section();
     status_words::section();
-    buffers::section();
+    reply_buffers::section();
 }

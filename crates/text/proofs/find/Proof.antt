@@ -4,7 +4,7 @@ use mathlib.Core.Path.{_≡_, refl, sym, _∙_}
 use native.Mathlib.Omega.{arith}
 use lib.ListN.{length}
 use Rattle.text.specs.Find.{placeOf}
-use Rattle.text.proofs.Laying.{find-end, find-at, find-on}
+use Rattle.text.proofs.Finding.{find-end, find-at, find-on}
 use Rattle.text.proofs.find.Statement.{statement}
 use Rattle.text.proofs.find.Tie as tie
 

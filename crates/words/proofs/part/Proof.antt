@@ -1,6 +1,6 @@
 -- `words::part` meets its contract. Assumes nothing.
 use borrow.Author.Needs.{needs}
-use Rattle.text.proofs.Laying.{place-in, place-from}
+use Rattle.text.proofs.Finding.{place-in, place-from}
 use Rattle.words.proofs.Words.{part-is}
 use Rattle.words.proofs.part.Statement.{statement}
 use Rattle.words.proofs.part.Tie as tie

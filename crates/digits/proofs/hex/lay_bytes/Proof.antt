@@ -4,8 +4,8 @@ use mathlib.Core.Path.{_≡_, refl, sym, _∙_}
 use native.Mathlib.Omega.{arith}
 use lib.ListN.{length, drop, length-set}
 use denote.Ref.{now}
-use Rattle.reply.specs.Lay.{over}
-use Rattle.reply.proofs.Laying.{over-none}
+use Rattle.buffers.specs.Lay.{over}
+use Rattle.buffers.proofs.Laying.{over-none}
 use Rattle.digits.specs.Hex.{bytesOf}
 use Rattle.digits.proofs.Pairs.{read-pair, bytes-on, bytes-end}
 use Rattle.digits.proofs.hex.lay_bytes.Statement.{statement}

@@ -6,8 +6,8 @@ use native.Mathlib.Omega.{arith}
 use borrow.Author.Needs.{needs}
 use lib.ListN.{length, drop, length-set, drop-of-length-le}
 use denote.Ref.{now}
-use Rattle.reply.specs.Lay.{over}
-use Rattle.reply.proofs.Laying.{over-none}
+use Rattle.buffers.specs.Lay.{over}
+use Rattle.buffers.proofs.Laying.{over-none}
 use Rattle.digits.specs.Hex.{pairs}
 use Rattle.digits.proofs.Pairs.{pairs-long, pairs-on}
 use Rattle.digits.proofs.hex.lay_pairs.Statement.{statement}

@@ -1,6 +1,6 @@
 -- `digits::hex::put_hex` meets its contract. Assumes nothing.
 use borrow.Author.Needs.{needs}
-use Rattle.text.proofs.Laying.{in-room}
+use Rattle.buffers.proofs.Laying.{in-room}
 use Rattle.digits.proofs.Pairs.{hex-none, hex-placed, hex-unplaced, hex-large}
 use Rattle.digits.proofs.hex.put_hex.Statement.{statement}
 use Rattle.digits.proofs.hex.put_hex.Tie as tie

@@ -1,6 +1,6 @@
 -- `digits::number::put_digits` meets its contract. Assumes nothing.
 use borrow.Author.Needs.{needs}
-use Rattle.text.proofs.Laying.{in-room}
+use Rattle.buffers.proofs.Laying.{in-room}
 use Rattle.digits.proofs.Digits.{base-some, base-most, digits-placed, digits-unplaced}
 use Rattle.digits.proofs.number.put_digits.Statement.{statement}
 use Rattle.digits.proofs.number.put_digits.Tie as tie

@@ -4,8 +4,8 @@ use mathlib.Core.Path.{_≡_, refl, sym, _∙_}
 use native.Mathlib.Nat.{mod-lt}
 use native.Mathlib.Omega.{arith}
 use lib.ListN.{length, length-set}
-use Rattle.reply.specs.Lay.{over}
-use Rattle.reply.proofs.Laying.{over-none}
+use Rattle.buffers.specs.Lay.{over}
+use Rattle.buffers.proofs.Laying.{over-none}
 use Rattle.digits.specs.Digits.{digits}
 use Rattle.digits.proofs.Digits.{digits-long, digits-back}
 use Rattle.digits.proofs.number.spell.Statement.{statement}

@@ -1,7 +1,7 @@
 -- `reply::wire::put` meets its contract. Assumes nothing.
 use borrow.Author.Needs.{needs}
 use mathlib.Core.Path.{refl}
-use Rattle.reply.proofs.Laying.{over-one}
+use Rattle.buffers.proofs.Laying.{over-one}
 use Rattle.reply.proofs.wire.put.Statement.{statement}
 use Rattle.reply.proofs.wire.put.Tie as tie
 

@@ -1,6 +1,6 @@
 -- `reply::wire::put_object` meets its contract. Assumes nothing.
 use borrow.Author.Needs.{needs}
-use Rattle.reply.proofs.Pieces.{object-put}
+use Rattle.reply.proofs.Pieces.{object-most, object-put}
 use Rattle.reply.proofs.wire.put_object.Statement.{statement}
 use Rattle.reply.proofs.wire.put_object.Tie as tie
 
@@ -12,4 +12,4 @@ put-object-spec =
     (λ c κs. search needs)
     (λ c κs. search needs)
     (λ c. search needs)
-    (λ c. (search needs, search object-put depth 6)))
+    (λ c. (search object-most depth 6, search object-put depth 6)))

@@ -2,7 +2,7 @@
 use Prim.Native.Nat.{_-_}
 use lib.ListN.{length}
 use borrow.Author.Needs.{needs}
-use Rattle.text.proofs.Laying.{place-in, line-from, past-less}
+use Rattle.text.proofs.Finding.{place-in, line-from, past-less}
 use Rattle.worked.proofs.told.told.Statement.{statement}
 use Rattle.worked.proofs.told.told.Tie as tie
 

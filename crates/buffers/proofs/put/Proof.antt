@@ -1,8 +1,8 @@
--- `text::put` meets its contract. Assumes nothing.
+-- `buffers::put` meets its contract. Assumes nothing.
 use borrow.Author.Needs.{needs}
-use Rattle.text.proofs.Laying.{in-room, placed, unplaced}
-use Rattle.text.proofs.put.Statement.{statement}
-use Rattle.text.proofs.put.Tie as tie
+use Rattle.buffers.proofs.Laying.{in-room, placed, unplaced}
+use Rattle.buffers.proofs.put.Statement.{statement}
+use Rattle.buffers.proofs.put.Tie as tie
 
 pub put-spec : {M : Type 1} → statement M
 put-spec =

@@ -1,15 +1,14 @@
--- `text::lay` meets its contract: what is left to write, written over what stands there, is the whole. Assumes nothing.
+-- `buffers::lay` meets its contract: what is left to write, written over what stands there, is the whole. Assumes nothing.
 use Prim.Native.Nat.{_+_, _≤_, _-_}
 use mathlib.Core.Path.{_≡_, refl, sym, _∙_}
 use native.Mathlib.Nat.{add-zero}
 use native.Mathlib.Omega.{arith}
 use lib.ListN.{length, drop, length-set, drop-of-length-le}
 use denote.Ref.{now}
-use Rattle.reply.specs.Lay.{over}
-use Rattle.reply.proofs.Laying.{over-none}
-use Rattle.text.proofs.Laying.{copy-on}
-use Rattle.text.proofs.lay.Statement.{statement}
-use Rattle.text.proofs.lay.Tie as tie
+use Rattle.buffers.specs.Lay.{over}
+use Rattle.buffers.proofs.Laying.{over-none, copy-on}
+use Rattle.buffers.proofs.lay.Statement.{statement}
+use Rattle.buffers.proofs.lay.Tie as tie
 
 abbrev Inv-loop : tie.InvT-loop
 Inv-loop out₀ at s i₀ out i = (i ≤ length s) × (length out ≡ length out₀) × (over at s out₀ ≡ over (at + i) (drop i s) out)
