@@ -3,7 +3,7 @@ use Prim.Native.Nat.{ℕ}
 use mathlib.Core.Path.{_≡_, sym, ap, _∙_}
 use mathlib.Core.List.{List}
 use lib.ListN.{length}
-use Rattle.status.specs.Words.{number}
+use Rattle.status.specs.Words.{wordNumber}
 use Rattle.status.specs.declared.Word.{Word}
 use Rattle.event.specs.declared.Event.{Event}
 use Rattle.event.specs.Event.{wordOf}
@@ -17,7 +17,7 @@ pub layout-arm : (x d : Event) (r : Layout) → x ≡ d → r ≡ layoutOf d →
 layout-arm x d r e z = z ∙ ap layoutOf (sym e)
 
 -- what was written is the reply to the event
-pub answer-is : (h : Points) (e : Event) (first o₀ o₁ : List ℕ) (l : Layout) (w : Word) (k n : ℕ) → l ≡ layoutOf e → w ≡ wordOf e → k ≡ number w
+pub answer-is : (h : Points) (e : Event) (first o₀ o₁ : List ℕ) (l : Layout) (w : Word) (k n : ℕ) → l ≡ layoutOf e → w ≡ wordOf e → k ≡ wordNumber w
     → Written (replyOf (length o₀) l k first (h .newest .name) (h .previous .name) (h .two)) o₀ o₁ n
     → Written (replyTo h e first (length o₀)) o₀ o₁ n
 unfolding replyTo

@@ -1,11 +1,11 @@
 -- The reply to an event. Assumes nothing: these are definitions.
 use Prim.Native.Nat.{ℕ}
 use mathlib.Core.List.{List}
-use Rattle.status.specs.Words.{number}
+use Rattle.status.specs.Words.{wordNumber}
 use Rattle.run.specs.declared.Step.{Step}
 use Rattle.run.specs.declared.Step.the-variants.{Nonce, Map, Agree, Confirm}
 use Rattle.event.specs.declared.Refusal.{Refusal}
-use Rattle.event.specs.declared.Refusal.the-variants.{Length, Lacking, Blocked, Expired, Moment, Data, Parameters, NotFound, Instruction, Class, Outside}
+use Rattle.event.specs.declared.Refusal.the-variants.{Length, Lacking, Blocked, Unusable, Moment, Data, Parameters, NotFound, Instruction, Class, Outside}
 use Rattle.event.specs.declared.Event.{Event}
 use Rattle.event.specs.declared.Event.the-variants.{Refused, Lost, Chosen, StepPassed, Opened, RunClosed, TrialLost, Selected, LinkTaken, DvTaken, TerminalTaken, Announced, Challenged, Proven, ProofLost, ChipKeyChosen, Authenticated, ChipLost, ReadAllowed, PinChanged, UnblockedByPuk, UnblockedByRight, Activated, Deactivated, NotPassed}
 use Rattle.event.specs.Event.{wordOf}
@@ -26,7 +26,7 @@ abbrev pub refusedLayout : Refusal → Layout
 refusedLayout Length = Bare
 refusedLayout Lacking = Bare
 refusedLayout Blocked = Bare
-refusedLayout Expired = Bare
+refusedLayout Unusable = Bare
 refusedLayout Moment = Bare
 refusedLayout Data = Bare
 refusedLayout Parameters = Bare
@@ -66,4 +66,4 @@ layoutOf NotPassed = Bare
 
 -- the reply to an event, with the trust points held after it, in a buffer of this size
 unfoldable pub replyTo : Points → Event → List ℕ → ℕ → List ℕ
-replyTo h e first size = replyOf size (layoutOf e) (number (wordOf e)) first (h .newest .name) (h .previous .name) (h .two)
+replyTo h e first size = replyOf size (layoutOf e) (wordNumber (wordOf e)) first (h .newest .name) (h .previous .name) (h .two)

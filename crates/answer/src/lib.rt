@@ -28,7 +28,7 @@ fn refused_layout(w: Refusal) -> Layout
         Refusal::Length => Layout::Bare,
         Refusal::Lacking => Layout::Bare,
         Refusal::Blocked => Layout::Bare,
-        Refusal::Expired => Layout::Bare,
+        Refusal::Unusable => Layout::Bare,
         Refusal::Moment => Layout::Bare,
         Refusal::Data => Layout::Bare,
         Refusal::Parameters => Layout::Bare,

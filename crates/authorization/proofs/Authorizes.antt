@@ -5,7 +5,7 @@ use native.Mathlib.Nat.{zero-div}
 use mathlib.Core.Bool.{Bool, true, false, cond, not, _&&_}
 use mathlib.Core.Path.{_≡_, refl, sym, ap, _∙_}
 use borrow.Author.Tests.{eq-eqb, ne-eqb}
-use Rattle.rights.specs.Rights.{low, common, hasRight}
+use Rattle.rights.specs.Rights.{low, common, hasRight, canAllowed}
 use Rattle.rights.proofs.Bits.{common-right}
 use Rattle.rights.specs.declared.Rights.{Rights}
 use Rattle.rights.specs.declared.Granted.{Granted}
@@ -30,7 +30,7 @@ module _ (c : Context) (k : ℕ) (e : k ≡ rank (c .stage)) where
   unfolding authorization
   not-yet n = rw (← e, ne-eqb k 6 n)
 
-  module _ (s : Rights) (f : s ≡ sharedBy (c .chain) (c .confirmed)) (h : k ≡ 6) (n a : Bool) (g : n ≡ openedByCan (c .opened)) (i : a ≡ hasRight 4 s) where
+  module _ (s : Rights) (f : s ≡ sharedBy (c .chain) (c .confirmed)) (h : k ≡ 6) (n a : Bool) (g : n ≡ openedByCan (c .opened)) (i : a ≡ hasRight canAllowed s) where
     pub not-by-can : n && not a ≡ true → nothing ≡ authorization c
     unfolding authorization
     not-by-can q = rw (← e, eq-eqb k 6 h, ← f, ← i, ← g, q)
@@ -50,9 +50,9 @@ shared-right k c g h = common-right k (trustedOf (c .reach)) (c .dv .rights) (c 
 -- no right is effective but in an authenticated session, by the CAN only with bit 4
 pub effective-right : (k : ℕ) (c : Context) → k < low
     → hasRight k (authorization c)
-    ≡ isAuthenticated (c .stage) && not (openedByCan (c .opened) && not (hasRight 4 (sharedBy (c .chain) (c .confirmed)))) && hasRight k (sharedBy (c .chain) (c .confirmed))
+    ≡ isAuthenticated (c .stage) && not (openedByCan (c .opened) && not (hasRight canAllowed (sharedBy (c .chain) (c .confirmed)))) && hasRight k (sharedBy (c .chain) (c .confirmed))
 unfolding authorization
-effective-right k c h = go (isAuthenticated (c .stage)) (openedByCan (c .opened) && not (hasRight 4 (sharedBy (c .chain) (c .confirmed))))
+effective-right k c h = go (isAuthenticated (c .stage)) (openedByCan (c .opened) && not (hasRight canAllowed (sharedBy (c .chain) (c .confirmed))))
   where
     none : hasRight k nothing ≡ false
     none = rw (zero-div (2 ^ k))

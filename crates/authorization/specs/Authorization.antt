@@ -1,7 +1,7 @@
 -- "Effective authorization is the bitwise AND of the low 38 bits of trust point, DV, terminal and confirmed rights, once
 -- authenticated; zero otherwise, and zero if the CAN opened and bit 4 is missing from it." Assumes nothing: these are definitions.
 use mathlib.Core.Bool.{cond, not, _&&_}
-use Rattle.rights.specs.Rights.{common, hasRight}
+use Rattle.rights.specs.Rights.{common, hasRight, canAllowed}
 use Rattle.rights.specs.declared.Rights.{Rights}
 use Rattle.rights.specs.declared.Granted.{Granted}
 use Rattle.rights.specs.declared.Granted.the-variants.{These, NoRights}
@@ -29,5 +29,5 @@ sharedBy c g = common (trustedOf (c .reach)) (c .dv .rights) (c .terminal .right
 unfoldable pub authorization : Context → Rights
 authorization c =
     cond (not (isAuthenticated (c .stage))) nothing
-    (cond (openedByCan (c .opened) && not (hasRight 4 (sharedBy (c .chain) (c .confirmed)))) nothing
+    (cond (openedByCan (c .opened) && not (hasRight canAllowed (sharedBy (c .chain) (c .confirmed)))) nothing
     (sharedBy (c .chain) (c .confirmed)))

@@ -20,7 +20,7 @@ use Rattle.rights.specs.declared.Rights.{Rights}
 use Rattle.names.proofs.Kept.{name-good}
 use Rattle.days.proofs.Kept.{day-good}
 use Rattle.rights.proofs.Kept.{rights-good}
-use Rattle.certificate.specs.Body.{unread, read, ended, placeOf, isLast, isPublicKey, isSignature, Pending, bodyThen, signature, bodyOf, signedOf, versionThen, issuerThen, keyThen, ownThen, rightsThen, firstThen, lastThen, extThen}
+use Rattle.certificate.specs.Body.{unread, read, ended, placeOf, isLastDay, isPublicKey, isSignature, Pending, bodyThen, signature, bodyOf, signedOf, versionThen, issuerThen, keyThen, ownThen, rightsThen, firstThen, lastThen, extThen}
 use Rattle.certificate.specs.declared.Place.{Place}
 use Rattle.certificate.specs.declared.Body.{Body}
 use Rattle.certificate.specs.declared.Reading.{Reading}
@@ -53,7 +53,7 @@ module _ (stop : ℕ) where
     last-good : (first : Day) → dayFits first ≡ true → (s : List ℕ) (n : ℕ) → ReadGood (lastThen stop issuer key own rights first s n)
     unfolding lastThen
     last-good first f s n =
-        taken-all unread ReadGood never 0x5F24 false (isLast first) s (λ c e. extThen stop issuer key own rights first (record { 0 = dayOf c }))
+        taken-all unread ReadGood never 0x5F24 false (isLastDay first) s (λ c e. extThen stop issuer key own rights first (record { 0 = dayOf c }))
         (λ a e h. ext-good first (record { 0 = dayOf (part a e s) }) f (day-good (part a e s) (and-l (isDate (part a e s)) _ h)) (and-r (isDate (part a e s)) _ h) (drop e s)) n
 
     first-good : (s : List ℕ) (n : ℕ) → ReadGood (firstThen stop issuer key own rights s n)

@@ -27,7 +27,7 @@ use Rattle.strings.specs.Bytes.{eqbs, among}
 use Rattle.names.specs.Names.{isName, nameOf}
 use Rattle.days.specs.Days.{isDate, dayOf, dated, before}
 use Rattle.rights.specs.Rights.{isRights, rightsOf, granted}
-use Rattle.certificate.specs.Body.{isLast, isPublicKey, keyObjects, isSignature, unread, read, noPlace, Pending, ended, placeOf, bodyThen, signature, bodyOf, signedOf, isSigned, signsBy, versionThen, issuerThen, keyThen, ownThen, rightsThen, firstThen, lastThen, extThen}
+use Rattle.certificate.specs.Body.{isLastDay, isPublicKey, keyObjects, isSignature, unread, read, noPlace, Pending, ended, placeOf, bodyThen, signature, bodyOf, signedOf, isSigned, signsBy, versionThen, issuerThen, keyThen, ownThen, rightsThen, firstThen, lastThen, extThen}
 use Rattle.names.specs.declared.Name.{Name}
 use Rattle.days.specs.declared.Day.{Day}
 use Rattle.rights.specs.declared.Rights.{Rights}
@@ -169,7 +169,7 @@ module _ (stop used : ℕ) (issuer : Name) (key : Place) (own : Name) (rights : 
 module _ (stop used : ℕ) (issuer : Name) (key : Place) (own : Name) (rights : Rights) (first : Day) (s : List ℕ) (f : Found) (is : f ≡ foundIn 0x5F24 false s) (a e : ℕ) (p : f ≡ Content a e)
     (w : Dated) (v : w ≡ dated (part a e s)) (x : Reading) where
   module _ (d : Day) (q : w ≡ On d) (b : Bool) (h : b ≡ before d first) where
-    in-order : (t : Bool) → not b ≡ t → isLast first (part a e s) ≡ t
+    in-order : (t : Bool) → not b ≡ t → isLastDay first (part a e s) ≡ t
     in-order t n =
         let k = day-holds (part a e s) d (sym v ∙ q) in
         let m : before (record { 0 = dayOf (part a e s) }) first ≡ b = sym (h ∙ ap (λ (y : Day). before y first) (k .1)) in
@@ -180,15 +180,15 @@ module _ (stop used : ℕ) (issuer : Name) (key : Place) (own : Name) (rights : 
     unfolding lastThen
     last-on n g =
         let k = day-holds (part a e s) d (sym v ∙ q) in
-        g ∙ rw (k .1) (sym (flat-taken unread used (deepest - 2) s 0x5F24 (isLast first) _ a e (sym is ∙ p) (in-order true n)))
+        g ∙ rw (k .1) (sym (flat-taken unread used (deepest - 2) s 0x5F24 (isLastDay first) _ a e (sym is ∙ p) (in-order true n)))
 
     pub last-past : x ≡ unread → not b ≡ false → x ≡ counted unread used (objectsAt 2 s) (lastThen stop issuer key own rights first s)
     unfolding lastThen
-    last-past u n = u ∙ sym (not-fit unread used (deepest - 2) s 0x5F24 (isLast first) _ false (objectsAt 2 s) a e (sym is ∙ p) (in-order false n))
+    last-past u n = u ∙ sym (not-fit unread used (deepest - 2) s 0x5F24 (isLastDay first) _ false (objectsAt 2 s) a e (sym is ∙ p) (in-order false n))
 
   pub last-off : x ≡ unread → w ≡ NoDay → x ≡ counted unread used (objectsAt 2 s) (lastThen stop issuer key own rights first s)
   unfolding lastThen
-  last-off u q = u ∙ sym (not-fit unread used (deepest - 2) s 0x5F24 (isLast first) _ false (objectsAt 2 s) a e (sym is ∙ p) (rw (day-fails (part a e s) (sym v ∙ q))))
+  last-off u q = u ∙ sym (not-fit unread used (deepest - 2) s 0x5F24 (isLastDay first) _ false (objectsAt 2 s) a e (sym is ∙ p) (rw (day-fails (part a e s) (sym v ∙ q))))
 
 -- 65, and the end
 

@@ -68,8 +68,8 @@ unfoldable pub isSignature : List ℕ → Bool
 isSignature c = among 1 longestSignature (length c)
 
 -- a day that is not before the first
-abbrev pub isLast : Day → List ℕ → Bool
-isLast first c = isDate c && not (before (record { 0 = dayOf c }) first)
+abbrev pub isLastDay : Day → List ℕ → Bool
+isLastDay first c = isDate c && not (before (record { 0 = dayOf c }) first)
 
 module _ (stop : ℕ) where
   -- 65 optional, well-formed, unjudged
@@ -81,7 +81,7 @@ module _ (stop : ℕ) where
   -- 5F24 last day, not before the first
   unfoldable pub lastThen : Name → Place → Name → Rights → Day → List ℕ → Pending
   lastThen issuer key own rights first s =
-      taken unread 0x5F24 false (isLast first) s (λ c e. extThen issuer key own rights first (record { 0 = dayOf c }))
+      taken unread 0x5F24 false (isLastDay first) s (λ c e. extThen issuer key own rights first (record { 0 = dayOf c }))
 
   -- 5F25 first day
   unfoldable pub firstThen : Name → Place → Name → Rights → List ℕ → Pending

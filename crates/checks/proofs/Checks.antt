@@ -6,7 +6,7 @@ use mathlib.Core.Path.{_≡_, sym, ap, _∙_}
 use lib.Dec.{eqb}
 use Rattle.names.specs.Names.{sameName}
 use Rattle.points.specs.Points.{noPoint}
-use Rattle.rights.specs.Rights.{hasRight, readsGroup}
+use Rattle.rights.specs.Rights.{hasRight, readsGroup, pinManagement}
 use Rattle.names.specs.declared.Name.{Name}
 use Rattle.keys.specs.declared.Key.{Key}
 use Rattle.points.specs.declared.Point.{Point}
@@ -78,7 +78,7 @@ module _ (x : Context) (a : Rights) (f : a ≡ authorization x) where
   unfolding readPlan
   read-is n b e r g h z = rw (← f, ← g, ← h) z
 
-  module _ (m : Bool) (g : m ≡ hasRight 5 a) (r : Plan) where
+  module _ (m : Bool) (g : m ≡ hasRight pinManagement a) (r : Plan) where
     module _ (active o : Bool) (e : o ≡ openedByPin (x .opened)) where
       pub change-good : (o && active) || m ≡ true → r ≡ awaitsBy PinChange PinChanged NotPassed → r ≡ changePlan x active
       unfolding changePlan

@@ -4,7 +4,7 @@ use mathlib.Core.Bool.{Bool, false, cond, not, _&&_, _||_}
 use lib.Dec.{eqb}
 use Rattle.names.specs.Names.{sameName}
 use Rattle.points.specs.Points.{noPoint}
-use Rattle.rights.specs.Rights.{hasRight, readsGroup}
+use Rattle.rights.specs.Rights.{hasRight, readsGroup, pinManagement}
 use Rattle.names.specs.declared.Name.{Name}
 use Rattle.keys.specs.declared.Key.{Key}
 use Rattle.run.specs.declared.Choice.{Choice}
@@ -30,7 +30,7 @@ use Rattle.authorization.specs.Authorization.{authorization}
 
 -- "Bit 5 is that of the effective authorization"
 abbrev pub managesPin : Context → Bool
-managesPin z = hasRight 5 (authorization z)
+managesPin z = hasRight pinManagement (authorization z)
 
 -- ---- Choose password
 

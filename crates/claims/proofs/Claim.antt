@@ -8,7 +8,7 @@ use Rattle.keys.specs.Keys.{keyOf, noKey, keyFits, keyStands}
 use Rattle.days.specs.Days.{isDate, dayFits, isDay, before, later}
 use Rattle.rights.specs.Rights.{rightsFit, roleOf, isRights, andOf, common, groupMask, readsGroup}
 use Rattle.points.specs.Points.{noPoint, pointFits, expired, withKey}
-use Rattle.status.specs.Words.{number}
+use Rattle.status.specs.Words.{wordNumber}
 use Rattle.certificate.specs.Body.{isPublicKey, isSignature, bodyThen, signedOf, versionThen, issuerThen, keyThen, ownThen, rightsThen, firstThen, lastThen, extThen}
 use Rattle.command.specs.Form.{formOf, afterHeader, afterFour, extendedOf, dataThen, afterShort, afterLong}
 use Rattle.command.specs.Kind.{kindOf}
@@ -41,7 +41,7 @@ use Rattle.token.specs.Step.{stepOf}
 use Rattle.claims.specs.Values.{Values}
 
 pub values-met : Values
-unfolding objectsIn objects objectsOf foundIn headerOf tagOf secondTagByte lenOf lengthAfter81 lengthAfter82 counted taken copiedInto isName nameOf noName nameFits sameName keyOf noKey keyFits keyStands isDate dayFits isDay before later rightsFit roleOf isRights andOf common groupMask readsGroup noPoint pointFits expired withKey number isPublicKey isSignature bodyThen signedOf versionThen issuerThen keyThen ownThen rightsThen firstThen lastThen extThen formOf afterHeader afterFour extendedOf dataThen afterShort afterLong kindOf shapeOf headedOf wordOf settledBy awaitsBy endsBy passesBy judgedOf awaitedOf courseOf reading lastly fitted lastOf holds only verifying choiceOf protocolThen passwordThen choice.rightsThen chosenBy generalOf heldIn verified verifyOf dataOf asking askedOf lengthBytes object reply.dataOf reply.replyOf trustPointFits onePoint pointsFit knows found linked noChain momentOf trustedFits dvFits terminalFits chainFits groundFits contextFits sharedBy authorization startOf inLimits choosePlan runPlan generalPlan readPlan repeats late underCourse underPlan verifyPlan commandOf timedOf requestedOf guarded planOf choiceTaken runClosed trialLost linkTaken dvTaken terminalTaken afterOf layoutOf replyTo stepOf
+unfolding objectsIn objects objectsOf foundIn headerOf tagOf secondTagByte lenOf lengthAfter81 lengthAfter82 counted taken copiedInto isName nameOf noName nameFits sameName keyOf noKey keyFits keyStands isDate dayFits isDay before later rightsFit roleOf isRights andOf common groupMask readsGroup noPoint pointFits expired withKey wordNumber isPublicKey isSignature bodyThen signedOf versionThen issuerThen keyThen ownThen rightsThen firstThen lastThen extThen formOf afterHeader afterFour extendedOf dataThen afterShort afterLong kindOf shapeOf headedOf wordOf settledBy awaitsBy endsBy passesBy judgedOf awaitedOf courseOf reading lastly fitted lastOf holds only verifying choiceOf protocolThen passwordThen choice.rightsThen chosenBy generalOf heldIn verified verifyOf dataOf asking askedOf lengthBytes object reply.dataOf reply.replyOf trustPointFits onePoint pointsFit knows found linked noChain momentOf trustedFits dvFits terminalFits chainFits groundFits contextFits sharedBy authorization startOf inLimits choosePlan runPlan generalPlan readPlan repeats late underCourse underPlan verifyPlan commandOf timedOf requestedOf guarded planOf choiceTaken runClosed trialLost linkTaken dvTaken terminalTaken afterOf layoutOf replyTo stepOf
 values-met =
     record {
       p1 = refl;

@@ -25,6 +25,7 @@ fn is_day(n: u32) -> bool
     ((2000 <= y) & (y <= 2099)) & (((1 <= m) & (m <= 12)) & ((1 <= d) & (d <= 31)))
 }
 
+// One digit more; the bound lets it fit in 32 bits.
 fn digit(n: u32, b: u8) -> u32
     requires { ⌜ n ≤ 400000000 ⌝ }
     ensures { λ r. ⌜ r ≡ n * 10 + b ⌝ }

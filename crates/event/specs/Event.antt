@@ -3,10 +3,10 @@ use Prim.Native.Nat.{ℕ}
 use mathlib.Core.Bool.{cond, _&&_}
 use lib.Dec.{ltb}
 use Rattle.status.specs.declared.Word.{Word}
-use Rattle.status.specs.declared.Word.the-variants.{Done, Tries, NotPassed as BadVerdict, Length as W6700, Lacking as W6982, Blocked as W6983, Expired as W6984, Moment as W6985, Unprotected as W6987, Broken as W6988, Data as W6A80, Parameters as W6A86, NotFound as W6A88, Instruction as W6D00, Class as W6E00, Outside as W6F00}
+use Rattle.status.specs.declared.Word.the-variants.{Done, Tries, NotPassed as W6300, Length as W6700, Lacking as W6982, Blocked as W6983, Unusable as W6984, Moment as W6985, Unprotected as W6987, Broken as W6988, Data as W6A80, Parameters as W6A86, NotFound as W6A88, Instruction as W6D00, Class as W6E00, Outside as W6F00}
 use Rattle.run.specs.declared.Choice.{Choice}
 use Rattle.event.specs.declared.Refusal.{Refusal}
-use Rattle.event.specs.declared.Refusal.the-variants.{Length, Lacking, Blocked, Expired, Moment, Data, Parameters, NotFound, Instruction, Class, Outside}
+use Rattle.event.specs.declared.Refusal.the-variants.{Length, Lacking, Blocked, Unusable, Moment, Data, Parameters, NotFound, Instruction, Class, Outside}
 use Rattle.event.specs.declared.Loss.{Loss}
 use Rattle.event.specs.declared.Loss.the-variants.{Unprotected, Broken}
 use Rattle.event.specs.declared.Event.{Event}
@@ -17,7 +17,7 @@ abbrev pub refusalWord : Refusal → Word
 refusalWord Length = W6700
 refusalWord Lacking = W6982
 refusalWord Blocked = W6983
-refusalWord Expired = W6984
+refusalWord Unusable = W6984
 refusalWord Moment = W6985
 refusalWord Data = W6A80
 refusalWord Parameters = W6A86
@@ -41,7 +41,7 @@ wordOf (Lost l) = lossWord l
 wordOf (Chosen c left) = chosenWord c left
 wordOf (StepPassed c p) = Done
 wordOf (Opened c) = Done
-wordOf RunClosed = BadVerdict
+wordOf RunClosed = W6300
 -- "or PIN trial lost, X left"
 wordOf (TrialLost left) = Tries left
 wordOf (Selected i) = Done
@@ -51,14 +51,14 @@ wordOf TerminalTaken = Done
 wordOf Announced = Done
 wordOf Challenged = Done
 wordOf Proven = Done
-wordOf ProofLost = BadVerdict
+wordOf ProofLost = W6300
 wordOf ChipKeyChosen = Done
 wordOf Authenticated = Done
-wordOf ChipLost = BadVerdict
+wordOf ChipLost = W6300
 wordOf ReadAllowed = Done
 wordOf PinChanged = Done
 wordOf UnblockedByPuk = Done
 wordOf UnblockedByRight = Done
 wordOf Activated = Done
 wordOf Deactivated = Done
-wordOf NotPassed = BadVerdict
+wordOf NotPassed = W6300

@@ -3,7 +3,7 @@
 use Prim.Native.Nat.{ℕ}
 use mathlib.Core.Bool.{Bool, cond, not, _&&_, _||_}
 use Rattle.run.specs.declared.Choice.{Choice}
-use Rattle.event.specs.declared.Refusal.the-variants.{Lacking, Blocked, Expired, Moment, Data, NotFound}
+use Rattle.event.specs.declared.Refusal.the-variants.{Lacking, Blocked, Unusable, Moment, Data, NotFound}
 use Rattle.event.specs.declared.Event.{Event}
 use Rattle.event.specs.declared.Event.the-variants.{Refused, Chosen, UnblockedByPuk, UnblockedByRight, NotPassed}
 use Rattle.course.specs.declared.Job.the-variants.{Certificate}
@@ -14,7 +14,7 @@ use Rattle.course.specs.declared.Course.the-variants.{Settled, Awaits}
 abbrev pub chooseLadder : Bool → Bool → Bool → Bool → Choice → ℕ → Event
 chooseLadder spent inactive lone used c left =
     cond spent (Refused Blocked)
-    (cond inactive (Refused Expired)
+    (cond inactive (Refused Unusable)
     (cond lone (Refused Moment)
     (cond used (Refused Blocked)
     (Chosen c left))))
@@ -26,7 +26,7 @@ verifyLadder misplaced repeated unnamed late taken =
     cond misplaced (Settled (Refused Data))
     (cond repeated (Settled (Refused Data))
     (cond unnamed (Settled (Refused NotFound))
-    (cond late (Settled (Refused Expired))
+    (cond late (Settled (Refused Unusable))
     (Awaits Certificate taken NotPassed))))
 
 -- "With no such ground: 6982"

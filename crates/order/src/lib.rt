@@ -22,7 +22,7 @@ pub fn choose(
         return Event::Refused(Refusal::Blocked);
     }
     if inactive {
-        return Event::Refused(Refusal::Expired);
+        return Event::Refused(Refusal::Unusable);
     }
     if lone {
         return Event::Refused(Refusal::Moment);
@@ -47,7 +47,7 @@ pub fn verify(misplaced: bool, repeated: bool, unnamed: bool, late: bool, taken:
         return Course::Settled(Event::Refused(Refusal::NotFound));
     }
     if late {
-        return Course::Settled(Event::Refused(Refusal::Expired));
+        return Course::Settled(Event::Refused(Refusal::Unusable));
     }
     Course::Awaits(Job::Certificate, taken, Event::NotPassed)
 }

@@ -18,3 +18,4 @@ pub mod Strings
 pub mod Token
 pub mod Trust
 pub mod Points
+pub mod Text

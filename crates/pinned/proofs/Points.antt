@@ -5,7 +5,7 @@ use mathlib.Core.List.{List}
 use Rattle.laws.proofs.Pinned.{Pinned, pinned}
 use Rattle.days.specs.Days.{dated, dayFits, before, later}
 use Rattle.points.specs.Points.{noPoint, pointFits, expired, withKey, todayAfter}
-use Rattle.status.specs.Words.{number, intakeWord}
+use Rattle.status.specs.Words.{wordNumber, intakeWord}
 use Rattle.days.specs.declared.Day.{Day}
 use Rattle.days.specs.declared.Dated.{Dated}
 use Rattle.points.specs.declared.Point.{Point}
@@ -45,7 +45,7 @@ today-after-pinned dv terminal today = pinned _
 
 -- ---- word
 
-pub number-pinned : (w : Word) → Pinned ℕ (number w)
+pub number-pinned : (w : Word) → Pinned ℕ (wordNumber w)
 number-pinned w = pinned _
 
 pub intake-word-pinned : (i : Intake) → Pinned Word (intakeWord i)

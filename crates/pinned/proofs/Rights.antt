@@ -3,7 +3,7 @@ use Prim.Native.Nat.{ℕ}
 use mathlib.Core.Bool.{Bool}
 use mathlib.Core.List.{List}
 use Rattle.laws.proofs.Pinned.{Pinned, pinned}
-use Rattle.rights.specs.Rights.{granted, rightsFit, roleOf, common, hasRight, readsGroup}
+use Rattle.rights.specs.Rights.{granted, rightsFit, roleOf, common, hasRight, readsGroup, canAllowed, pinManagement}
 use Rattle.roles.specs.Roles.{isCvca, isOfficial, isTerminal, isDv}
 use Rattle.rights.specs.declared.Rights.{Rights}
 use Rattle.roles.specs.declared.Role.{Role}
@@ -21,10 +21,10 @@ role-pinned r = pinned _
 pub common-pinned : (a b c d : Rights) → Pinned Rights (common a b c d)
 common-pinned a b c d = pinned _
 
-pub allows-can-pinned : (r : Rights) → Pinned Bool (hasRight 4 r)
+pub allows-can-pinned : (r : Rights) → Pinned Bool (hasRight canAllowed r)
 allows-can-pinned r = pinned _
 
-pub manages-pin-pinned : (r : Rights) → Pinned Bool (hasRight 5 r)
+pub manages-pin-pinned : (r : Rights) → Pinned Bool (hasRight pinManagement r)
 manages-pin-pinned r = pinned _
 
 pub reads-pinned : (r : Rights) (n : ℕ) → Pinned Bool (readsGroup r n)

@@ -41,7 +41,7 @@ use Rattle.fields.specs.Asked.{askedOf, askedBy, asking, dataOf}
 use Rattle.fields.specs.declared.asked.Ask.the-variants.{Read as AskRead}
 use Rattle.fields.specs.declared.asked.Request.{Request}
 use Rattle.fields.specs.declared.asked.Request.the-variants.{Asks}
-use Rattle.status.specs.Words.{number}
+use Rattle.status.specs.Words.{wordNumber}
 use Rattle.reply.specs.declared.Layout.the-variants.{Bare}
 use Rattle.reply.specs.Bytes.{wordBytes}
 use Rattle.reply.specs.Reply.{room, dataOf as replyData, replyOf}
@@ -166,7 +166,7 @@ read-word t n x lo hi l w =
     (ap wordOf (settled-event (readEvent (isOpen (contextOf t .opened)) (noRun (contextOf t .stage)) (readsGroup (authorization (contextOf t)) n)) (x .result) (length (x .first)) (x .second)))
 
 -- its reply is its word
-bare-reply : (h : Points) (e : Event) (size : ℕ) → layoutOf e ≡ Bare → room ≤ size → replyTo h e [] size ≡ wordBytes (number (wordOf e))
+bare-reply : (h : Points) (e : Event) (size : ℕ) → layoutOf e ≡ Bare → room ≤ size → replyTo h e [] size ≡ wordBytes (wordNumber (wordOf e))
 unfolding replyTo replyOf replyData
 bare-reply h e size b r = rw (b, le-ltb size room r)
 
@@ -179,7 +179,7 @@ read-bare false m b = refl
 
 read-bytes : (t : Token) (n : ℕ) (x : Exchange) → 1 ≤ n → n ≤ 21 → inLimits t ≡ true → ReadsNow n x
     → stepOf t (x .command) (x .note) (x .result) (x .first) (x .second) (x .size) .bytes
-    ≡ wordBytes (number (wordOf (readEvent (isOpen (contextOf t .opened)) (noRun (contextOf t .stage)) (readsGroup (authorization (contextOf t)) n))))
+    ≡ wordBytes (wordNumber (wordOf (readEvent (isOpen (contextOf t .opened)) (noRun (contextOf t .stage)) (readsGroup (authorization (contextOf t)) n))))
 unfolding stepOf settledBy courseOf endsBy
 read-bytes t n x lo hi l w =
     rw (le-ltb (x .size) room (w .roomy), w .protected, read-plan t (x .command) n l (read-asked n lo hi (x .command) (w .bytes)))
@@ -199,8 +199,8 @@ allowed-word false m b says e = record { allowed = λ h. true-false (sym h ∙ e
 other : {x y : ℕ} {A : Type 0} → 0x69 ∷ x ∷ [] ≡ 0x90 ∷ y ∷ [] → A
 other h = absurd (let z : _≡_ {A = ℕ} 0x69 0x90 = cc in omega arith)
 
-allowed-bytes : (o m b says : Bool) → says ≡ o && m && b → Answers (wordBytes (number (wordOf (readEvent o m b)))) says
-unfolding wordOf number
+allowed-bytes : (o m b says : Bool) → says ≡ o && m && b → Answers (wordBytes (wordNumber (wordOf (readEvent o m b)))) says
+unfolding wordOf wordNumber
 allowed-bytes true true true says e = record { allowed = λ h. refl; said = λ h. e }
 allowed-bytes true true false says e = record { allowed = λ h. true-false (sym h ∙ e); said = λ h. other h }
 allowed-bytes true false b says e = record { allowed = λ h. true-false (sym h ∙ e); said = λ h. other h }

@@ -41,13 +41,13 @@ use Rattle.keys.specs.Keys.{isKey, keyOf, noKey, keyIs, keyFits, keyStands}
 use Rattle.names.specs.Names.{isName, nameOf, noName, nameFits, sameName}
 use Rattle.points.specs.Points.{noPoint, pointFits, expired, withKey}
 use Rattle.rights.specs.Rights.{rightsFit, roleOf, isRights, granted, andOf, common, groupMask, readsGroup}
-use Rattle.status.specs.Words.{number}
+use Rattle.status.specs.Words.{wordNumber}
 use mathlib.Core.Path.{refl}
 use Rattle.record.specs.Worked.{AllWorked}
 use Rattle.record.specs.Judged.{AllJudged}
 
 pub all-worked : AllWorked
-unfolding unread isPublicKey isSignature extThen lastThen firstThen rightsThen ownThen keyThen issuerThen versionThen bodyThen bodyOf signedOf keyObjects isSigned afterShort afterLong dataThen extendedOf afterFour afterHeader formOf kindOf headedOf shapeOf settledBy awaitsBy wordOf endsBy passesBy judgedOf awaitedOf courseOf keyThen·Announce·fields auxiliaryThen terminalThen protocolThen announceOf dataOf refusing asking askedOf referenceIn chipOf chosenBy rightsThen·Choice·fields passwordThen protocolThen·Choice·fields choiceOf only selecting verifying announcing heldIn generalOf selectOf verified verifyOf proofOf pinOf reading lastly fitted lastOf holds counted taken secondTagByte tagOf lengthAfter81 lengthAfter82 lenOf headerOf objectsOf objects object objectsIn foundIn prescribed after readable lengthBytes object·Bytes·reply over dataOf·Reply·reply replyOf sharedBy authorization trustedFits dvFits terminalFits chainFits groundFits contextFits momentOf noChain choiceTaken staged stepPassed opened runClosed trialLost issuerSelected linkTaken dvTaken terminalTaken announced unblocked unblockedByPuk afterOf selectPlan repeats late underCourse underPlan verifyPlan choosePlan runPlan chipPlan generalPlan announcePlan readPlan changePlan unblockPlan activePlan inLimits commandOf timedOf requestedOf guarded planOf resetOf startOf noToken madeOf layoutOf replyTo stepOf trustPointFits onePoint twoPoints pointsFit knows found linked copiedInto isDate dayFits isDay dated before later isKey keyOf noKey keyIs keyFits keyStands isName nameOf noName nameFits sameName noPoint pointFits expired withKey rightsFit roleOf isRights granted andOf common groupMask readsGroup number
+unfolding unread isPublicKey isSignature extThen lastThen firstThen rightsThen ownThen keyThen issuerThen versionThen bodyThen bodyOf signedOf keyObjects isSigned afterShort afterLong dataThen extendedOf afterFour afterHeader formOf kindOf headedOf shapeOf settledBy awaitsBy wordOf endsBy passesBy judgedOf awaitedOf courseOf keyThen·Announce·fields auxiliaryThen terminalThen protocolThen announceOf dataOf refusing asking askedOf referenceIn chipOf chosenBy rightsThen·Choice·fields passwordThen protocolThen·Choice·fields choiceOf only selecting verifying announcing heldIn generalOf selectOf verified verifyOf proofOf pinOf reading lastly fitted lastOf holds counted taken secondTagByte tagOf lengthAfter81 lengthAfter82 lenOf headerOf objectsOf objects object objectsIn foundIn prescribed after readable lengthBytes object·Bytes·reply over dataOf·Reply·reply replyOf sharedBy authorization trustedFits dvFits terminalFits chainFits groundFits contextFits momentOf noChain choiceTaken staged stepPassed opened runClosed trialLost issuerSelected linkTaken dvTaken terminalTaken announced unblocked unblockedByPuk afterOf selectPlan repeats late underCourse underPlan verifyPlan choosePlan runPlan chipPlan generalPlan announcePlan readPlan changePlan unblockPlan activePlan inLimits commandOf timedOf requestedOf guarded planOf resetOf startOf noToken madeOf layoutOf replyTo stepOf trustPointFits onePoint twoPoints pointsFit knows found linked copiedInto isDate dayFits isDay dated before later isKey keyOf noKey keyIs keyFits keyStands isName nameOf noName nameFits sameName noPoint pointFits expired withKey rightsFit roleOf isRights granted andOf common groupMask readsGroup wordNumber
 all-worked = ((refl, refl), (refl, refl), (refl, refl), (refl, refl), (refl, refl), (refl, refl), (refl, refl), (refl, refl))
 
 pub all-judged : AllJudged

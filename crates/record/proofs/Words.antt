@@ -6,11 +6,11 @@ use lib.Dec.{ltb}
 use Rattle.keys.specs.declared.Key.{Key}
 use Rattle.points.specs.declared.Point.{Point}
 use Rattle.status.specs.declared.Word.{Word}
-use Rattle.status.specs.declared.Word.the-variants.{Done, Tries, NotPassed as BadVerdict}
+use Rattle.status.specs.declared.Word.the-variants.{Done, Tries, NotPassed as W6300}
 use Rattle.run.specs.declared.Choice.{Choice}
 use Rattle.run.specs.Run.{passwordOf, isPin}
 use Rattle.event.specs.declared.Refusal.{Refusal}
-use Rattle.event.specs.declared.Refusal.the-variants.{Length, Lacking, Blocked, Expired, Moment, Data, Parameters, NotFound, Instruction, Class, Outside}
+use Rattle.event.specs.declared.Refusal.the-variants.{Length, Lacking, Blocked, Unusable, Moment, Data, Parameters, NotFound, Instruction, Class, Outside}
 use Rattle.event.specs.declared.Loss.{Loss}
 use Rattle.event.specs.declared.Loss.the-variants.{Unprotected, Broken}
 use Rattle.event.specs.declared.Event.{Event}
@@ -54,7 +54,7 @@ refused-fact : (w : Refusal) (f : Fact) → factBy (refusalWord w) f ≡ Nothing
 refused-fact Length f = refl
 refused-fact Lacking f = refl
 refused-fact Blocked f = refl
-refused-fact Expired f = refl
+refused-fact Unusable f = refl
 refused-fact Moment f = refl
 refused-fact Data f = refl
 refused-fact Parameters f = refl
@@ -83,7 +83,7 @@ module _ (t : Token) (a : Asked) where
   fact-of (is-chosen {c = c} q e) = read a (cond (isPin (passwordOf c) && ltb (t .pin) 3) (Tries (t .pin)) Done) _ q (chosen-fact (isPin (passwordOf c) && ltb (t .pin) 3) (t .pin) c)
   fact-of (is-stepped q e f) = read a Done _ q refl
   fact-of (is-opened q e f) = read a Done _ q refl
-  fact-of (is-run-closed q e) = read a BadVerdict _ q refl
+  fact-of (is-run-closed q e) = read a W6300 _ q refl
   fact-of (is-trial-lost q e) = read a (Tries (t .pin - 1)) _ q refl
   fact-of (is-selected q e) = read a Done _ q refl
   fact-of (is-link-taken n q c r e) = read a Done _ q refl
@@ -92,13 +92,13 @@ module _ (t : Token) (a : Asked) where
   fact-of (is-announced q e) = read a Done _ q refl
   fact-of (is-challenged q e) = read a Done _ q refl
   fact-of (is-proven q e) = read a Done _ q refl
-  fact-of (is-proof-lost q e) = read a BadVerdict _ q refl
+  fact-of (is-proof-lost q e) = read a W6300 _ q refl
   fact-of (is-chip-key-chosen q e) = read a Done _ q refl
   fact-of (is-authenticated q e) = read a Done _ q refl
-  fact-of (is-chip-lost q e) = read a BadVerdict _ q refl
-  fact-of (not-passed q verifying) = read a BadVerdict _ q refl
-  fact-of (not-passed q challenging) = read a BadVerdict _ q refl
-  fact-of (not-passed q changing) = read a BadVerdict _ q refl
+  fact-of (is-chip-lost q e) = read a W6300 _ q refl
+  fact-of (not-passed q verifying) = read a W6300 _ q refl
+  fact-of (not-passed q challenging) = read a W6300 _ q refl
+  fact-of (not-passed q changing) = read a W6300 _ q refl
   fact-of (is-read q) = read a Done _ q refl
   fact-of (is-changed q) = read a Done _ q refl
   fact-of (is-unblocked-puk q) = read a Done _ q refl

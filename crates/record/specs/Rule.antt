@@ -6,7 +6,7 @@ use mathlib.Core.Option.{Option, none, some}
 use mathlib.Core.List.{List, [], _∷_}
 use lib.Dec.{eqb, leb}
 use Rattle.names.specs.Names.{sameName}
-use Rattle.rights.specs.Rights.{roleOf, hasRight}
+use Rattle.rights.specs.Rights.{roleOf, hasRight, canAllowed}
 use Rattle.names.specs.declared.Name.{Name}
 use Rattle.points.specs.declared.Point.{Point}
 use Rattle.rights.specs.declared.Rights.{Rights}
@@ -15,7 +15,7 @@ use Rattle.rights.specs.declared.Granted.the-variants.{These, NoRights}
 use Rattle.roles.specs.declared.Role.{Role}
 use Rattle.roles.specs.Roles.{isCvca, isDv, isTerminal}
 use Rattle.status.specs.declared.Word.{Word}
-use Rattle.status.specs.declared.Word.the-variants.{Done, Tries, NotPassed, Length, Lacking, Blocked, Expired, Moment, Unprotected, Broken, Data, Parameters, NotFound, Instruction, Class, Outside}
+use Rattle.status.specs.declared.Word.the-variants.{Done, Tries, NotPassed, Length, Lacking, Blocked, Unusable, Moment, Unprotected, Broken, Data, Parameters, NotFound, Instruction, Class, Outside}
 use Rattle.run.specs.declared.Password.{Password}
 use Rattle.run.specs.declared.Choice.{Choice}
 use Rattle.run.specs.Run.{passwordOf, rightsNamed, isCan}
@@ -117,7 +117,7 @@ factBy Broken f = Lost
 factBy Length f = Nothing
 factBy Lacking f = Nothing
 factBy Blocked f = Nothing
-factBy Expired f = Nothing
+factBy Unusable f = Nothing
 factBy Moment f = Nothing
 factBy Data f = Nothing
 factBy Parameters f = Nothing
@@ -300,7 +300,7 @@ abbrev pub inAll : ChainRights → Rights → ℕ → Bool
 inAll t x i = hasRight i (t .trusted) && hasRight i (t .dv) && hasRight i (t .terminal) && hasRight i x
 
 abbrev pub agrees : Password → Rights → ChainRights → ℕ → Bool
-agrees w x t i = (not (isCan w) || inAll t x 4) && inAll t x i
+agrees w x t i = (not (isCan w) || inAll t x canAllowed) && inAll t x i
 
 abbrev pub ruleE : Option (Password × Rights) → Option ChainRights → ℕ → Bool
 ruleE none t n = false

@@ -64,6 +64,13 @@ andOf (suc k) a b = andOf k (a / 2) (b / 2) * 2 + min (a % 2) (b % 2)
 unfoldable pub common : Rights → Rights → Rights → Rights → Rights
 common a b c d = record { 0 = andOf low (andOf low (andOf low (a .0) (b .0)) (c .0)) (d .0) }
 
+-- "5 PIN management; 4 CAN allowed"
+abbrev pub pinManagement : ℕ
+pinManagement = 5
+
+abbrev pub canAllowed : ℕ
+canAllowed = 4
+
 -- "Bit 7+n reads group n, 1..21"
 abbrev pub isGroup : ℕ → Bool
 isGroup n = among 1 21 n

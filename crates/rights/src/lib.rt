@@ -3,7 +3,7 @@ ghost use mathlib.Core.Path.{_≡_};
 ghost use Prim.Native.Nat.{_+_, _*_, _≤_};
 ghost use lib.ListN.{length};
 ghost use Rattle.strings.specs.Bytes.{number};
-ghost use Rattle.rights.specs.Rights.{rightsFit, roleOf, granted, common, hasRight, groupMask, readsGroup};
+ghost use Rattle.rights.specs.Rights.{rightsFit, roleOf, granted, common, hasRight, groupMask, readsGroup, pinManagement, canAllowed};
 use roles::Role;
 use strings::same;
 
@@ -14,7 +14,7 @@ pub enum Granted {
     NoRights,
 }
 
-// 06 and the roles of terminals, then the header of 53 with five bytes.
+// 06 with the identifier of authentication terminals, then the header of 53 with five bytes.
 const TEMPLATE: [u8; 13] = [6, 9, 4, 0, 0x7F, 0, 7, 3, 1, 2, 2, 0x53, 5];
 
 // The right to read each group, group 1 first.
@@ -42,6 +42,7 @@ const MASKS: [u64; 21] = [
     0x10000000,
 ];
 
+// One byte more; the bound lets it fit in 64 bits.
 fn byte(n: u64, b: u8) -> u64
     requires { ⌜ n ≤ 0xFFFFFFFFFFFF ⌝ }
     ensures { λ r. ⌜ r ≡ n * 256 + b ⌝ }
@@ -122,7 +123,7 @@ impl Rights {
 
     // Bit 4, CAN allowed.
     pub fn allows_can(self) -> bool
-        ensures { λ r. ⌜ r ≡ hasRight 4 self ⌝ }
+        ensures { λ r. ⌜ r ≡ hasRight canAllowed self ⌝ }
     {
         let x = self.0 & 0x10;
         x != 0
@@ -130,7 +131,7 @@ impl Rights {
 
     // Bit 5, PIN management.
     pub fn manages_pin(self) -> bool
-        ensures { λ r. ⌜ r ≡ hasRight 5 self ⌝ }
+        ensures { λ r. ⌜ r ≡ hasRight pinManagement self ⌝ }
     {
         let x = self.0 & 0x20;
         x != 0

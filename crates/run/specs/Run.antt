@@ -61,6 +61,7 @@ abbrev pub nextStep : Step → Step
 nextStep Nonce = Map
 nextStep Map = Agree
 nextStep Agree = Confirm
+-- the fourth has none after it
 nextStep Confirm = Confirm
 
 -- "PIN counter 0..3 (start 3)"

@@ -24,6 +24,7 @@ pub enum Choice {
     Puk,
 }
 
+// The four steps, by TR-03110's names: encrypted nonce, mapping, key agreement, confirmation.
 pub enum Step {
     Nonce,
     Map,

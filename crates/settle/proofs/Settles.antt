@@ -102,18 +102,18 @@ module _ (P : Happened → Type 0) (p : Plan) where
 
 -- ---- what is answered fits the reply, and the string has it
 
-job-jobs : (j : Job) (a b : ℕ) → jobFits j a b ≡ true → a ≤ longest
-job-jobs Nothing a b e = true-false (sym e)
-job-jobs (StepJob p) a b e = go (isLast p) e
+first-small : (j : Job) (a b : ℕ) → jobFits j a b ≡ true → a ≤ longest
+first-small Nothing a b e = true-false (sym e)
+first-small (StepJob p) a b e = go (isLast p) e
   where
     go : (l : Bool) → cond l (eqb a 8 && eqb b 0) (among 1 longest a && eqb b 0) ≡ true → a ≤ longest
     go true f = let h : a ≡ 8 = eqb-true a 8 (and-l (eqb a 8) (eqb b 0) f) in omega arith
     go false f = leb-true a longest (and-r (leb 1 a) (leb a longest) (and-l (among 1 longest a) (eqb b 0) f))
-job-jobs Certificate a b e = let h : a ≡ 0 = eqb-true a 0 (and-l (eqb a 0) (eqb b 0) e) in omega arith
-job-jobs Challenge a b e = let h : a ≡ 8 = eqb-true a 8 (and-l (eqb a 8) (eqb b 0) e) in omega arith
-job-jobs Proof a b e = let h : a ≡ 0 = eqb-true a 0 (and-l (eqb a 0) (eqb b 0) e) in omega arith
-job-jobs ChipKey a b e = let h : a ≡ 16 = eqb-true a 16 (and-l (eqb a 16) _ e) in omega arith
-job-jobs PinChange a b e = let h : a ≡ 0 = eqb-true a 0 (and-l (eqb a 0) (eqb b 0) e) in omega arith
+first-small Certificate a b e = let h : a ≡ 0 = eqb-true a 0 (and-l (eqb a 0) (eqb b 0) e) in omega arith
+first-small Challenge a b e = let h : a ≡ 8 = eqb-true a 8 (and-l (eqb a 8) (eqb b 0) e) in omega arith
+first-small Proof a b e = let h : a ≡ 0 = eqb-true a 0 (and-l (eqb a 0) (eqb b 0) e) in omega arith
+first-small ChipKey a b e = let h : a ≡ 16 = eqb-true a 16 (and-l (eqb a 16) _ e) in omega arith
+first-small PinChange a b e = let h : a ≡ 0 = eqb-true a 0 (and-l (eqb a 0) (eqb b 0) e) in omega arith
 
 abbrev Small : ℕ → Happened → Type 0
 Small a h = (h .answer ≤ longest) × (h .answer ≤ a)
@@ -121,7 +121,7 @@ Small a h = (h .answer ≤ longest) × (h .answer ≤ a)
 pub answer-in : (p : Plan) (r : Answered) (a : ℕ) (s : List ℕ) → Small a (settleOf p r a s)
 unfolding endsBy passesBy
 answer-in p r a s =
-    settle-all (Small a) p r a s (λ e h. (omega arith, omega arith)) (λ j x y h. (omega arith, omega arith)) (λ j x y h f n. (job-jobs j a (length s) f, omega arith))
+    settle-all (Small a) p r a s (λ e h. (omega arith, omega arith)) (λ j x y h. (omega arith, omega arith)) (λ j x y h f n. (first-small j a (length s) f, omega arith))
 
 -- ---- "where none, the result has no influence"
 

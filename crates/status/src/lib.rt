@@ -1,6 +1,6 @@
 // The status words of document 01's table.
 ghost use mathlib.Core.Path.{_≡_};
-ghost use Rattle.status.specs.Words.{number, intakeWord};
+ghost use Rattle.status.specs.Words.{wordNumber, intakeWord};
 
 pub enum Word {
     Done,
@@ -9,7 +9,7 @@ pub enum Word {
     Length,
     Lacking,
     Blocked,
-    Expired,
+    Unusable,
     Moment,
     Unprotected,
     Broken,
@@ -41,7 +41,7 @@ impl Intake {
 
 impl Word {
     pub fn number(self) -> u16
-        ensures { λ r. ⌜ r ≡ number self ⌝ }
+        ensures { λ r. ⌜ r ≡ wordNumber self ⌝ }
     {
         match self {
             Word::Done => 0x9000,
@@ -50,7 +50,7 @@ impl Word {
             Word::Length => 0x6700,
             Word::Lacking => 0x6982,
             Word::Blocked => 0x6983,
-            Word::Expired => 0x6984,
+            Word::Unusable => 0x6984,
             Word::Moment => 0x6985,
             Word::Unprotected => 0x6987,
             Word::Broken => 0x6988,

@@ -9,6 +9,7 @@ pub const STRING: usize = 140;
 
 // What a byte of a field may be.
 pub enum Class {
+    // A-Z; 20..7E or A0..FF; 0-9 or A-Z; 0..9; 30..39
     Letter,
     Latin,
     Serial,
@@ -16,6 +17,7 @@ pub enum Class {
     Numeral,
 }
 
+// The same bytes, and as many.
 pub fn same(a: &[u8], b: &[u8]) -> bool
     ensures { λ r. ⌜ r ≡ eqbs (now (a .entry)) (now (b .entry)) ⌝ }
 {
@@ -44,6 +46,7 @@ fn belongs(class: Class, b: u8) -> bool
     }
 }
 
+// Whether every byte is of the class.
 pub fn all(class: Class, s: &[u8]) -> bool
     ensures { λ r. ⌜ r ≡ allOf class (now (s .entry)) ⌝ }
 {
