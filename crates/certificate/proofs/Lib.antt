@@ -1,4 +1,1 @@
 pub mod Contents
-pub mod Links
-pub mod Good
-pub mod Examples

@@ -3,23 +3,23 @@ use borrow.Author.Needs.{needs}
 use mathlib.Core.Bool.{Bool, true, false, not, _&&_, _||_}
 use mathlib.Core.Path.{_≡_, sym, ap, _∙_}
 use Rattle.names.specs.Names.{sameName}
-use Rattle.points.specs.Points.{expired}
+use Rattle.certificate.specs.Certificate.{expired}
 use Rattle.keys.specs.Keys.{noKey}
 use Rattle.rights.specs.Rights.{roleOf}
 use Rattle.roles.specs.Roles.{isCvca, isTerminal}
 use Rattle.days.specs.declared.Day.{Day}
 use Rattle.names.specs.declared.Name.{Name}
 use Rattle.keys.specs.declared.Key.{Key}
-use Rattle.points.specs.declared.Point.{Point}
+use Rattle.certificate.specs.declared.Certificate.{Certificate}
 use Rattle.roles.specs.declared.Role.{Role}
 use Rattle.event.specs.declared.Refusal.the-variants.{NotFound}
 use Rattle.event.specs.declared.Issuer.{Issuer}
 use Rattle.event.specs.declared.Issuer.the-variants.{Dv}
 use Rattle.event.specs.declared.Event.{Event}
 use Rattle.event.specs.declared.Event.the-variants.{Refused, Selected as IsSelected}
-use Rattle.course.specs.declared.Course.{Course}
-use Rattle.course.specs.declared.Plan.{Plan}
-use Rattle.course.specs.Course.{settledBy}
+use Rattle.plans.specs.declared.Ending.{Ending}
+use Rattle.plans.specs.declared.Plan.{Plan}
+use Rattle.plans.specs.Plans.{settledBy}
 use Rattle.order.specs.Order.{verifyLadder}
 use Rattle.outcome.specs.Outcome.{issues, takenEvent}
 use Rattle.trust.specs.Trust.{found, knows, issuerOf}
@@ -29,7 +29,7 @@ use Rattle.trust.specs.declared.Trusted.the-variants.{Is, Unknown}
 use Rattle.standing.specs.declared.Chain.{Chain}
 use Rattle.standing.specs.declared.Selected.{Selected}
 use Rattle.standing.specs.Standing.{hasDv}
-use Rattle.certify.specs.Certify.{selectPlan, repeats, late, issuedCourse, underCourse, underPlan, verifyPlan}
+use Rattle.certify.specs.Certify.{selectPlan, repeats, late, issuedEnding, underEnding, underPlan, verifyPlan}
 
 module _ (h : Points) (n : Name) (x : Trusted) (e : x ≡ found h n) (c : Chain) (r : Plan) where
   pub select-point : (i : Issuer) → x ≡ Is i → r ≡ settledBy (IsSelected i) → r ≡ selectPlan h c n
@@ -47,28 +47,28 @@ module _ (h : Points) (n : Name) (x : Trusted) (e : x ≡ found h n) (c : Chain)
 
 -- ---- verify
 
-pub repeats-is : (h : Points) (dv : Point) (n : Name) (o : Role) (a b l : Bool) → a ≡ knows h n → b ≡ sameName n (dv .name) → l ≡ isTerminal o → a || (l && b) ≡ repeats h dv n o
+pub repeats-is : (h : Points) (dv : Certificate) (n : Name) (o : Role) (a b l : Bool) → a ≡ knows h n → b ≡ sameName n (dv .name) → l ≡ isTerminal o → a || (l && b) ≡ repeats h dv n o
 unfolding repeats
 repeats-is h dv n o a b l e f g = rw (e, f, g)
 
-pub late-is : (today : Day) (p h : Point) (o : Role) (l a b : Bool) → l ≡ isCvca o → a ≡ expired p today → b ≡ expired h today → not l && (a || b) ≡ late today p h o
+pub late-is : (today : Day) (p h : Certificate) (o : Role) (l a b : Bool) → l ≡ isCvca o → a ≡ expired p today → b ≡ expired h today → not l && (a || b) ≡ late today p h o
 unfolding late
 late-is today p h o l a b e f g = rw (e, f, g)
 
-module _ (points : Points) (dv : Point) (today : Day) where
-  pub course-is : (i : Issuer) (n : Name) (p h : Point) (o : Role) (a b c l : Bool) (x : Event) (r : Course) → h ≡ issuerOf points i dv → o ≡ roleOf (p .rights)
+module _ (points : Points) (dv : Certificate) (today : Day) where
+  pub ending-is : (i : Issuer) (n : Name) (p h : Certificate) (o : Role) (a b c l : Bool) (x : Event) (r : Ending) → h ≡ issuerOf points i dv → o ≡ roleOf (p .rights)
       → a ≡ issues i o → b ≡ repeats points dv (p .name) o → c ≡ sameName n (h .name) → l ≡ late today p h o → x ≡ takenEvent o (h .rights)
-      → r ≡ verifyLadder (not a) b (not c) l x → r ≡ underCourse points dv today i n p
-  unfolding underCourse
-  course-is i n p h o a b c l x r e f g q u v w z =
-      z ∙ rw (g, q, u, v, w) (ap (λ (y : Point). issuedCourse points dv today i y n p o) e ∙ ap (λ (y : Role). issuedCourse points dv today i (issuerOf points i dv) n p y) f)
+      → r ≡ verifyLadder (not a) b (not c) l x → r ≡ underEnding points dv today i n p
+  unfolding underEnding
+  ending-is i n p h o a b c l x r e f g q u v w z =
+      z ∙ rw (g, q, u, v, w) (ap (λ (y : Certificate). issuedEnding points dv today i y n p o) e ∙ ap (λ (y : Role). issuedEnding points dv today i (issuerOf points i dv) n p y) f)
 
-  pub under-is : (i : Issuer) (n : Name) (p : Point) (c : Course) (k : Key) → c ≡ underCourse points dv today i n p → k ≡ noKey
-      → _≡_ {A = Plan} (record { course = c; point = p; key = k }) (underPlan points dv today i n p)
+  pub under-is : (i : Issuer) (n : Name) (p : Certificate) (c : Ending) (k : Key) → c ≡ underEnding points dv today i n p → k ≡ noKey
+      → _≡_ {A = Plan} (record { ending = c; certificate = p; key = k }) (underPlan points dv today i n p)
   unfolding underPlan
   under-is i n p c k e f = rw (e, f)
 
-  pub verify-arm : (n : Name) (p : Point) (s d : Selected) (r : Plan) → s ≡ d → r ≡ verifyPlan points dv today d n p → r ≡ verifyPlan points dv today s n p
+  pub verify-arm : (n : Name) (p : Certificate) (s d : Selected) (r : Plan) → s ≡ d → r ≡ verifyPlan points dv today d n p → r ≡ verifyPlan points dv today s n p
   verify-arm n p s d r e z = z ∙ ap (λ (y : Selected). verifyPlan points dv today y n p) (sym e)
 
-pub ruleset certifies = (select-point, select-dv, select-none, repeats-is, late-is, course-is, under-is, needs)
+pub ruleset certifies = (select-point, select-dv, select-none, repeats-is, late-is, ending-is, under-is, needs)

@@ -1,21 +1,21 @@
 -- Select issuer and verify certificate. Assumes nothing: these are definitions.
 use mathlib.Core.Bool.{Bool, cond, not, _&&_, _||_}
 use Rattle.names.specs.Names.{sameName}
-use Rattle.points.specs.Points.{expired}
+use Rattle.certificate.specs.Certificate.{expired}
 use Rattle.keys.specs.Keys.{noKey}
 use Rattle.rights.specs.Rights.{roleOf}
 use Rattle.roles.specs.Roles.{isCvca, isTerminal}
 use Rattle.days.specs.declared.Day.{Day}
 use Rattle.names.specs.declared.Name.{Name}
-use Rattle.points.specs.declared.Point.{Point}
+use Rattle.certificate.specs.declared.Certificate.{Certificate}
 use Rattle.roles.specs.declared.Role.{Role}
 use Rattle.event.specs.declared.Refusal.the-variants.{Moment, NotFound}
 use Rattle.event.specs.declared.Issuer.{Issuer}
 use Rattle.event.specs.declared.Issuer.the-variants.{Dv}
 use Rattle.event.specs.declared.Event.the-variants.{Refused, Selected as IsSelected}
-use Rattle.course.specs.declared.Course.{Course}
-use Rattle.course.specs.declared.Plan.{Plan}
-use Rattle.course.specs.Course.{settledBy}
+use Rattle.plans.specs.declared.Ending.{Ending}
+use Rattle.plans.specs.declared.Plan.{Plan}
+use Rattle.plans.specs.Plans.{settledBy}
 use Rattle.order.specs.Order.{verifyLadder}
 use Rattle.outcome.specs.Outcome.{issues, takenEvent}
 use Rattle.trust.specs.Trust.{found, knows, issuerOf}
@@ -36,16 +36,16 @@ unfoldable pub selectPlan : Points → Chain → Name → Plan
 selectPlan h chain n = selectBy chain n (found h n)
 
 -- "A new name differs from both trust points', a terminal's also from its DV's"
-unfoldable pub repeats : Points → Point → Name → Role → Bool
+unfoldable pub repeats : Points → Certificate → Name → Role → Bool
 repeats h dv n role = knows h n || (isTerminal role && sameName n (dv .name))
 
 -- "Unless it is a link, neither certificate nor issuer may have its last day before today"
-unfoldable pub late : Day → Point → Point → Role → Bool
+unfoldable pub late : Day → Certificate → Certificate → Role → Bool
 late today p issuer role = not (isCvca role) && (expired p today || expired issuer today)
 
 -- a certificate p of this role, with n in its 42, under an issuer that has this certificate of its own
-abbrev pub issuedCourse : Points → Point → Day → Issuer → Point → Name → Point → Role → Course
-issuedCourse h dv today which issuer n p role =
+abbrev pub issuedEnding : Points → Certificate → Day → Issuer → Certificate → Name → Certificate → Role → Ending
+issuedEnding h dv today which issuer n p role =
     verifyLadder
     -- "CVCA issues CVCA (link) or DV; DV issues terminal; else 6A80"
     (not (issues which role))
@@ -57,14 +57,14 @@ issuedCourse h dv today which issuer n p role =
     (late today p issuer role)
     (takenEvent role (issuer .rights))
 
-unfoldable pub underCourse : Points → Point → Day → Issuer → Name → Point → Course
-underCourse h dv today i n p = issuedCourse h dv today i (issuerOf h i dv) n p (roleOf (p .rights))
+unfoldable pub underEnding : Points → Certificate → Day → Issuer → Name → Certificate → Ending
+underEnding h dv today i n p = issuedEnding h dv today i (issuerOf h i dv) n p (roleOf (p .rights))
 
-unfoldable pub underPlan : Points → Point → Day → Issuer → Name → Point → Plan
-underPlan h dv today i n p = record { course = underCourse h dv today i n p; point = p; key = noKey }
+unfoldable pub underPlan : Points → Certificate → Day → Issuer → Name → Certificate → Plan
+underPlan h dv today i n p = record { ending = underEnding h dv today i n p; certificate = p; key = noKey }
 
 -- under the selected issuer
-unfoldable pub verifyPlan : Points → Point → Day → Selected → Name → Point → Plan
+unfoldable pub verifyPlan : Points → Certificate → Day → Selected → Name → Certificate → Plan
 -- the moment has refused this before
 verifyPlan h dv today NoIssuer n p = settledBy (Refused Moment)
 verifyPlan h dv today (Of i) n p = underPlan h dv today i n p

@@ -1,15 +1,15 @@
 // Select issuer and verify certificate.
 ghost use mathlib.Core.Path.{_≡_};
-ghost use Rattle.certify.specs.Certify.{selectPlan, repeats, late, underCourse, underPlan, verifyPlan};
-use course::Course;
-use course::Plan;
+ghost use Rattle.certify.specs.Certify.{selectPlan, repeats, late, underEnding, underPlan, verifyPlan};
+use certificate::Certificate;
 use days::Day;
 use event::Event;
 use event::Issuer;
 use event::Refusal;
 use keys::Key;
 use names::Name;
-use points::Point;
+use plans::Ending;
+use plans::Plan;
 use roles::Role;
 use standing::Chain;
 use standing::Selected;
@@ -33,7 +33,7 @@ pub fn select(points: Points, chain: Chain, name: Name) -> Plan
 }
 
 // Whether a trust point has the new name, or a terminal's DV.
-fn repeats(points: Points, dv: Point, name: Name, role: Role) -> bool
+fn repeats(points: Points, dv: Certificate, name: Name, role: Role) -> bool
     ensures { λ r. ⌜ r ≡ repeats points dv name role ⌝ }
 {
     let dv_name = dv.name;
@@ -44,28 +44,28 @@ fn repeats(points: Points, dv: Point, name: Name, role: Role) -> bool
 }
 
 // Whether certificate or issuer is past its last day; a link may be.
-fn late(today: Day, point: Point, issuer: Point, role: Role) -> bool
-    ensures { λ r. ⌜ r ≡ late today point issuer role ⌝ }
+fn late(today: Day, certificate: Certificate, issuer: Certificate, role: Role) -> bool
+    ensures { λ r. ⌜ r ≡ late today certificate issuer role ⌝ }
 {
     let link = role.is_cvca();
-    let a = point.expired(today);
+    let a = certificate.expired(today);
     let b = issuer.expired(today);
     !link & (a | b)
 }
 
 // What becomes of a certificate under this issuer.
-fn under_course(
+fn under_ending(
     points: Points,
-    dv: Point,
+    dv: Certificate,
     today: Day,
     which: Issuer,
     name: Name,
-    point: Point,
-) -> Course
-    ensures { λ r. ⌜ r ≡ underCourse points dv today which name point ⌝ }
+    certificate: Certificate,
+) -> Ending
+    ensures { λ r. ⌜ r ≡ underEnding points dv today which name certificate ⌝ }
 {
-    let own = point.name;
-    let rights = point.rights;
+    let own = certificate.name;
+    let rights = certificate.rights;
     let issuer = points.issuer(which, dv);
     let trusted = issuer.rights;
     let issuer_name = issuer.name;
@@ -73,35 +73,42 @@ fn under_course(
     let placed = outcome::issues(which, role);
     let repeated = repeats(points, dv, own, role);
     let named = name.same(issuer_name);
-    let past = late(today, point, issuer, role);
+    let past = late(today, certificate, issuer, role);
     let taken = outcome::taken(role, trusted);
     order::verify(!placed, repeated, !named, past, taken)
 }
 
-fn under(points: Points, dv: Point, today: Day, issuer: Issuer, name: Name, point: Point) -> Plan
-    ensures { λ r. ⌜ r ≡ underPlan points dv today issuer name point ⌝ }
+fn under(
+    points: Points,
+    dv: Certificate,
+    today: Day,
+    issuer: Issuer,
+    name: Name,
+    certificate: Certificate,
+) -> Plan
+    ensures { λ r. ⌜ r ≡ underPlan points dv today issuer name certificate ⌝ }
 {
-    let course = under_course(points, dv, today, issuer, name, point);
+    let ending = under_ending(points, dv, today, issuer, name, certificate);
     let none = Key::none();
     Plan {
-        course: course,
-        point: point,
+        ending: ending,
+        certificate: certificate,
         key: none,
     }
 }
 
 pub fn verify(
     points: Points,
-    dv: Point,
+    dv: Certificate,
     today: Day,
     selected: Selected,
     name: Name,
-    point: Point,
+    certificate: Certificate,
 ) -> Plan
-    ensures { λ r. ⌜ r ≡ verifyPlan points dv today selected name point ⌝ }
+    ensures { λ r. ⌜ r ≡ verifyPlan points dv today selected name certificate ⌝ }
 {
     match selected {
-        Selected::Of(issuer) => under(points, dv, today, issuer, name, point),
+        Selected::Of(issuer) => under(points, dv, today, issuer, name, certificate),
         Selected::NoIssuer => Plan::settled(Event::Refused(Refusal::Moment)),
     }
 }

@@ -5,11 +5,11 @@ use mathlib.Core.Bool.{Bool, true, false, not, _&&_, _||_}
 use mathlib.Core.Path.{_≡_, sym, ap, _∙_}
 use lib.Dec.{eqb}
 use Rattle.names.specs.Names.{sameName}
-use Rattle.points.specs.Points.{noPoint}
+use Rattle.certificate.specs.Certificate.{noCertificate}
 use Rattle.rights.specs.Rights.{hasRight, readsGroup, pinManagement}
 use Rattle.names.specs.declared.Name.{Name}
 use Rattle.keys.specs.declared.Key.{Key}
-use Rattle.points.specs.declared.Point.{Point}
+use Rattle.certificate.specs.declared.Certificate.{Certificate}
 use Rattle.rights.specs.declared.Rights.{Rights}
 use Rattle.run.specs.declared.Choice.{Choice}
 use Rattle.run.specs.declared.Password.{Password}
@@ -18,10 +18,10 @@ use Rattle.run.specs.Run.{passwordOf, isPin, isPuk, stepNumber, tries}
 use Rattle.event.specs.declared.Refusal.the-variants.{Lacking, Data, NotFound}
 use Rattle.event.specs.declared.Event.{Event}
 use Rattle.event.specs.declared.Event.the-variants.{Refused, Announced as IsAnnounced, Authenticated as IsAuthenticated, ChipLost, ReadAllowed, PinChanged, NotPassed}
-use Rattle.course.specs.declared.Job.the-variants.{Step as StepJob, ChipKey, PinChange}
-use Rattle.course.specs.declared.Course.the-variants.{Settled, Awaits}
-use Rattle.course.specs.declared.Plan.{Plan}
-use Rattle.course.specs.Course.{settledBy, awaitsBy}
+use Rattle.plans.specs.declared.Job.the-variants.{Step as StepJob, ChipKey, PinChange}
+use Rattle.plans.specs.declared.Ending.the-variants.{Settled, Awaits}
+use Rattle.plans.specs.declared.Plan.{Plan}
+use Rattle.plans.specs.Plans.{settledBy, awaitsBy}
 use Rattle.order.specs.Order.{chooseLadder, grounded, unblockLadder}
 use Rattle.outcome.specs.Outcome.{passedEvent, otherEvent}
 use Rattle.fields.specs.declared.asked.Content.{Content}
@@ -57,7 +57,7 @@ module _ (k : Key) (x : Content) where
   unfolding chipPlan
   chip-bad q r e z = rw e z
 
-  pub chip-good : (n : Point) → x ≡ Chip → n ≡ noPoint → _≡_ {A = Plan} (record { course = Awaits ChipKey IsAuthenticated ChipLost; point = n; key = k }) (chipPlan k x)
+  pub chip-good : (n : Certificate) → x ≡ Chip → n ≡ noCertificate → _≡_ {A = Plan} (record { ending = Awaits ChipKey IsAuthenticated ChipLost; certificate = n; key = k }) (chipPlan k x)
   unfolding chipPlan
   chip-good n e f = rw (e, f)
 
@@ -65,7 +65,7 @@ pub general-arm : (k : Key) (pin : ℕ) (x : Content) (s d : Stage) (r : Plan) �
 general-arm k pin x s d r e f = f ∙ ap (λ (y : Stage). generalPlan k pin y x) (sym e)
 
 module _ (t n : Name) (k : Key) (b : Bool) (e : b ≡ sameName n t) where
-  pub announce-good : (p : Point) → b ≡ true → p ≡ noPoint → _≡_ {A = Plan} (record { course = Settled IsAnnounced; point = p; key = k }) (announcePlan t n k)
+  pub announce-good : (p : Certificate) → b ≡ true → p ≡ noCertificate → _≡_ {A = Plan} (record { ending = Settled IsAnnounced; certificate = p; key = k }) (announcePlan t n k)
   unfolding announcePlan
   announce-good p h f = rw (← e, h, f)
 

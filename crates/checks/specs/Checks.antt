@@ -3,7 +3,7 @@ use Prim.Native.Nat.{ℕ}
 use mathlib.Core.Bool.{Bool, false, cond, not, _&&_, _||_}
 use lib.Dec.{eqb}
 use Rattle.names.specs.Names.{sameName}
-use Rattle.points.specs.Points.{noPoint}
+use Rattle.certificate.specs.Certificate.{noCertificate}
 use Rattle.rights.specs.Rights.{hasRight, readsGroup, pinManagement}
 use Rattle.names.specs.declared.Name.{Name}
 use Rattle.keys.specs.declared.Key.{Key}
@@ -13,10 +13,10 @@ use Rattle.run.specs.Run.{passwordOf, isPin, isPuk, stepNumber, tries}
 use Rattle.event.specs.declared.Refusal.the-variants.{Lacking, Moment, Data, NotFound}
 use Rattle.event.specs.declared.Event.{Event}
 use Rattle.event.specs.declared.Event.the-variants.{Refused, Announced as IsAnnounced, Authenticated as IsAuthenticated, ChipLost, ReadAllowed, PinChanged, NotPassed}
-use Rattle.course.specs.declared.Job.the-variants.{Step as StepJob, ChipKey, PinChange}
-use Rattle.course.specs.declared.Course.the-variants.{Settled, Awaits}
-use Rattle.course.specs.declared.Plan.{Plan}
-use Rattle.course.specs.Course.{settledBy, awaitsBy}
+use Rattle.plans.specs.declared.Job.the-variants.{Step as StepJob, ChipKey, PinChange}
+use Rattle.plans.specs.declared.Ending.the-variants.{Settled, Awaits}
+use Rattle.plans.specs.declared.Plan.{Plan}
+use Rattle.plans.specs.Plans.{settledBy, awaitsBy}
 use Rattle.order.specs.Order.{chooseLadder, grounded, unblockLadder}
 use Rattle.outcome.specs.Outcome.{passedEvent, otherEvent}
 use Rattle.fields.specs.declared.asked.Content.{Content}
@@ -62,7 +62,7 @@ runPlan pin c p x = cond (not (isFor x p)) (settledBy (Refused Data)) (awaitsBy 
 
 unfoldable pub chipPlan : Key → Content → Plan
 chipPlan announced (StepData q) = settledBy (Refused Data)
-chipPlan announced Chip = record { course = Awaits ChipKey IsAuthenticated ChipLost; point = noPoint; key = announced }
+chipPlan announced Chip = record { ending = Awaits ChipKey IsAuthenticated ChipLost; certificate = noCertificate; key = announced }
 
 -- 86 is a run step in a run, and the chip key's when one is chosen
 unfoldable pub generalPlan : Key → ℕ → Stage → Content → Plan
@@ -78,7 +78,7 @@ generalPlan announced pin Authenticated x = settledBy (Refused Moment)
 -- ---- Announce: "83 the chain's terminal (6A88)"
 
 unfoldable pub announcePlan : Name → Name → Key → Plan
-announcePlan terminal n k = cond (sameName n terminal) (record { course = Settled IsAnnounced; point = noPoint; key = k }) (settledBy (Refused NotFound))
+announcePlan terminal n k = cond (sameName n terminal) (record { ending = Settled IsAnnounced; certificate = noCertificate; key = k }) (settledBy (Refused NotFound))
 
 -- ---- Read: "9000 without data, or 6982"
 

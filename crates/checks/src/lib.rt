@@ -1,19 +1,19 @@
 // The checks of each command, certificates apart.
 ghost use mathlib.Core.Path.{_≡_};
-ghost use Rattle.course.specs.Course.{settledBy};
+ghost use Rattle.plans.specs.Plans.{settledBy};
 ghost use Rattle.event.specs.declared.Event.the-variants.{Refused};
 ghost use Rattle.event.specs.declared.Refusal.the-variants.{Data};
 ghost use Rattle.checks.specs.Checks.{isFor, choosePlan, runPlan, chipPlan, generalPlan, announcePlan, readPlan, changePlan, unblockPlan, activePlan};
 use authorization::authorization;
-use course::Course;
-use course::Job;
-use course::Plan;
+use certificate::Certificate;
 use event::Event;
 use event::Refusal;
 use fields::asked::Content;
 use keys::Key;
 use names::Name;
-use points::Point;
+use plans::Ending;
+use plans::Job;
+use plans::Plan;
 use run::Choice;
 use run::Step;
 use run::TRIES;
@@ -74,10 +74,10 @@ fn chip_key(key: Key, content: Content) -> Plan
     match content {
         Content::Step(_) => bad_data(),
         Content::Chip => {
-            let none = Point::none();
+            let none = Certificate::none();
             Plan {
-                course: Course::Awaits(Job::ChipKey, Event::Authenticated, Event::ChipLost),
-                point: none,
+                ending: Ending::Awaits(Job::ChipKey, Event::Authenticated, Event::ChipLost),
+                certificate: none,
                 key: key,
             }
         }
@@ -103,11 +103,11 @@ pub fn general(context: Context, pin: u8, content: Content) -> Plan
 pub fn announce(terminal: Name, name: Name, key: Key) -> Plan
     ensures { λ r. ⌜ r ≡ announcePlan terminal name key ⌝ }
 {
-    let none = Point::none();
+    let none = Certificate::none();
     if name.same(terminal) {
         return Plan {
-            course: Course::Settled(Event::Announced),
-            point: none,
+            ending: Ending::Settled(Event::Announced),
+            certificate: none,
             key: key,
         };
     }

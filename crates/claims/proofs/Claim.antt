@@ -7,15 +7,15 @@ use Rattle.names.specs.Names.{isName, nameOf, noName, nameFits, sameName}
 use Rattle.keys.specs.Keys.{keyOf, noKey, keyFits, keyStands}
 use Rattle.days.specs.Days.{isDate, dayFits, isDay, before, later}
 use Rattle.rights.specs.Rights.{rightsFit, roleOf, isRights, andOf, common, groupMask, readsGroup}
-use Rattle.points.specs.Points.{noPoint, pointFits, expired, withKey}
+use Rattle.certificate.specs.Certificate.{noCertificate, certificateFits, expired, withKey}
 use Rattle.status.specs.Words.{wordNumber}
-use Rattle.certificate.specs.Body.{isPublicKey, isSignature, bodyThen, signedOf, versionThen, issuerThen, keyThen, ownThen, rightsThen, firstThen, lastThen, extThen}
+use Rattle.bodies.specs.Body.{isPublicKey, isSignature, bodyThen, signedOf, versionThen, issuerThen, keyThen, ownThen, rightsThen, firstThen, lastThen, extThen}
 use Rattle.command.specs.Form.{formOf, afterHeader, afterFour, extendedOf, dataThen, afterShort, afterLong}
 use Rattle.command.specs.Kind.{kindOf}
 use Rattle.command.specs.Shape.{shapeOf, headedOf}
 use Rattle.event.specs.Event.{wordOf}
-use Rattle.course.specs.Course.{settledBy, awaitsBy}
-use Rattle.settle.specs.Settle.{endsBy, passesBy, judgedOf, awaitedOf, courseOf}
+use Rattle.plans.specs.Plans.{settledBy, awaitsBy}
+use Rattle.verdicts.specs.Verdicts.{endsBy, passesBy, judgedOf, awaitedOf, endingOf}
 use Rattle.fields.specs.Taking.{reading, lastly, fitted, lastOf, holds}
 use Rattle.fields.specs.Given.{only, verifying}
 use Rattle.fields.specs.Choice.{choiceOf, protocolThen, passwordThen, chosenBy}
@@ -28,12 +28,12 @@ use Rattle.reply.specs.Reply as reply
 use Rattle.trust.specs.Trust.{trustPointFits, onePoint, pointsFit, knows, found, linked}
 use Rattle.standing.specs.Standing.{noChain}
 use Rattle.moment.specs.Moment.{momentOf}
-use Rattle.bounds.specs.Bounds.{trustedFits, dvFits, terminalFits, chainFits, groundFits, contextFits}
+use Rattle.session_limits.specs.SessionLimits.{trustedFits, dvFits, terminalFits, chainFits, groundFits, contextFits}
 use Rattle.authorization.specs.Authorization.{sharedBy, authorization}
 use Rattle.token.specs.State.{startOf}
 use Rattle.token.specs.Limits.{inLimits}
 use Rattle.checks.specs.Checks.{choosePlan, runPlan, generalPlan, readPlan}
-use Rattle.certify.specs.Certify.{repeats, late, underCourse, underPlan, verifyPlan}
+use Rattle.certify.specs.Certify.{repeats, late, underEnding, underPlan, verifyPlan}
 use Rattle.token.specs.Plan.{commandOf, timedOf, requestedOf, guarded, planOf}
 use Rattle.token.specs.After.{choiceTaken, runClosed, trialLost, linkTaken, dvTaken, terminalTaken, afterOf}
 use Rattle.answer.specs.Answer.{layoutOf, replyTo}
@@ -41,7 +41,7 @@ use Rattle.token.specs.Step.{stepOf}
 use Rattle.claims.specs.Values.{Values}
 
 pub values-met : Values
-unfolding objectsIn objects objectsOf foundIn headerOf tagOf secondTagByte lenOf lengthAfter81 lengthAfter82 counted taken copiedInto isName nameOf noName nameFits sameName keyOf noKey keyFits keyStands isDate dayFits isDay before later rightsFit roleOf isRights andOf common groupMask readsGroup noPoint pointFits expired withKey wordNumber isPublicKey isSignature bodyThen signedOf versionThen issuerThen keyThen ownThen rightsThen firstThen lastThen extThen formOf afterHeader afterFour extendedOf dataThen afterShort afterLong kindOf shapeOf headedOf wordOf settledBy awaitsBy endsBy passesBy judgedOf awaitedOf courseOf reading lastly fitted lastOf holds only verifying choiceOf protocolThen passwordThen choice.rightsThen chosenBy generalOf heldIn verified verifyOf dataOf asking askedOf lengthBytes object reply.dataOf reply.replyOf trustPointFits onePoint pointsFit knows found linked noChain momentOf trustedFits dvFits terminalFits chainFits groundFits contextFits sharedBy authorization startOf inLimits choosePlan runPlan generalPlan readPlan repeats late underCourse underPlan verifyPlan commandOf timedOf requestedOf guarded planOf choiceTaken runClosed trialLost linkTaken dvTaken terminalTaken afterOf layoutOf replyTo stepOf
+unfolding objectsIn objects objectsOf foundIn headerOf tagOf secondTagByte lenOf lengthAfter81 lengthAfter82 counted taken copiedInto isName nameOf noName nameFits sameName keyOf noKey keyFits keyStands isDate dayFits isDay before later rightsFit roleOf isRights andOf common groupMask readsGroup noCertificate certificateFits expired withKey wordNumber isPublicKey isSignature bodyThen signedOf versionThen issuerThen keyThen ownThen rightsThen firstThen lastThen extThen formOf afterHeader afterFour extendedOf dataThen afterShort afterLong kindOf shapeOf headedOf wordOf settledBy awaitsBy endsBy passesBy judgedOf awaitedOf endingOf reading lastly fitted lastOf holds only verifying choiceOf protocolThen passwordThen choice.rightsThen chosenBy generalOf heldIn verified verifyOf dataOf asking askedOf lengthBytes object reply.dataOf reply.replyOf trustPointFits onePoint pointsFit knows found linked noChain momentOf trustedFits dvFits terminalFits chainFits groundFits contextFits sharedBy authorization startOf inLimits choosePlan runPlan generalPlan readPlan repeats late underEnding underPlan verifyPlan commandOf timedOf requestedOf guarded planOf choiceTaken runClosed trialLost linkTaken dvTaken terminalTaken afterOf layoutOf replyTo stepOf
 values-met =
     record {
       p1 = refl;

@@ -9,10 +9,10 @@ use Rattle.objects.specs.Objects.{headerOf}
 use Rattle.objects.specs.declared.Head.the-variants.{Header, NoHeader}
 use Rattle.names.specs.Names.{nameOf}
 use Rattle.keys.specs.Keys.{keyOf}
-use Rattle.points.specs.Points.{noPoint}
+use Rattle.certificate.specs.Certificate.{noCertificate}
 use Rattle.rights.specs.Rights.{common, groupMask, readsGroup}
 use Rattle.names.specs.declared.Name.{Name}
-use Rattle.points.specs.declared.Point.{Point}
+use Rattle.certificate.specs.declared.Certificate.{Certificate}
 use Rattle.rights.specs.declared.Rights.{Rights}
 use Rattle.rights.specs.declared.Granted.the-variants.{These, NoRights}
 use Rattle.run.specs.declared.Password.{Password}
@@ -21,10 +21,10 @@ use Rattle.run.specs.declared.Choice.the-variants.{Pin as ChosenPin}
 use Rattle.run.specs.declared.Step.the-variants.{Confirm}
 use Rattle.event.specs.declared.Issuer.{Issuer}
 use Rattle.event.specs.declared.Issuer.the-variants.{Newest, Dv}
-use Rattle.course.specs.declared.Note.the-variants.{Plain, Protected}
-use Rattle.course.specs.declared.Job.the-variants.{Nothing, Step, Certificate}
-use Rattle.settle.specs.declared.Answered.{Answered}
-use Rattle.settle.specs.declared.Verdict.the-variants.{Passed, Failed, Missing}
+use Rattle.plans.specs.declared.Note.the-variants.{Plain, Protected}
+use Rattle.plans.specs.declared.Job.the-variants.{Nothing, Step, Certificate as CertificateJob}
+use Rattle.verdicts.specs.declared.Answered.{Answered}
+use Rattle.verdicts.specs.declared.Verdict.the-variants.{Passed, Failed, Missing}
 use Rattle.trust.specs.Trust.{onePoint}
 use Rattle.standing.specs.declared.Opened.{Opened}
 use Rattle.standing.specs.declared.Opened.the-variants.{Nobody, By}
@@ -57,7 +57,7 @@ abbrev pub confirmedRights : Rights
 confirmedRights = record { 0 = 0x0000000310 }
 
 -- UTCVCAAT00001, last day 2028-12-31
-abbrev pub root : Point
+abbrev pub root : Certificate
 root =
     record {
       name = nameOf (0x55 ∷ 0x54 ∷ 0x43 ∷ 0x56 ∷ 0x43 ∷ 0x41 ∷ 0x41 ∷ 0x54 ∷ 0x30 ∷ 0x30 ∷ 0x30 ∷ 0x30 ∷ 0x31 ∷ []);
@@ -72,7 +72,7 @@ abbrev pub linkName : Name
 linkName = nameOf (0x55 ∷ 0x54 ∷ 0x43 ∷ 0x56 ∷ 0x43 ∷ 0x41 ∷ 0x41 ∷ 0x54 ∷ 0x30 ∷ 0x30 ∷ 0x30 ∷ 0x30 ∷ 0x32 ∷ [])
 
 -- UTDVDOM00001, last day 2026-05-01
-abbrev pub dv : Point
+abbrev pub dv : Certificate
 dv =
     record {
       name = nameOf (0x55 ∷ 0x54 ∷ 0x44 ∷ 0x56 ∷ 0x44 ∷ 0x4F ∷ 0x4D ∷ 0x30 ∷ 0x30 ∷ 0x30 ∷ 0x30 ∷ 0x31 ∷ []);
@@ -83,7 +83,7 @@ dv =
     }
 
 -- UTTERM00001, with these rights
-abbrev pub terminal : Rights → Point
+abbrev pub terminal : Rights → Certificate
 terminal r =
     record {
       name = nameOf (0x55 ∷ 0x54 ∷ 0x54 ∷ 0x45 ∷ 0x52 ∷ 0x4D ∷ 0x30 ∷ 0x30 ∷ 0x30 ∷ 0x30 ∷ 0x31 ∷ []);
@@ -94,7 +94,7 @@ terminal r =
     }
 
 abbrev pub toDv : Chain
-toDv = record { reach = ToDv rootRights; dv = dv; terminal = noPoint }
+toDv = record { reach = ToDv rootRights; dv = dv; terminal = noCertificate }
 
 abbrev pub toTerminal : Rights → Chain
 toTerminal r = record { reach = ToTerminal rootRights; dv = dv; terminal = terminal r }
@@ -169,7 +169,7 @@ askedPlain t s = stepOf t s Plain noResult [] [] 258
 
 -- a certificate that verifies, on this day, under this issuer selected
 abbrev pub certified : ℕ → Chain → Issuer → List ℕ → Stepped
-certified today c i s = stepOf (tokenAt today (selecting (chainedTo (openedBy Pin) c) i)) s Protected (record { job = Certificate; verdict = Passed 7 }) [] [] 258
+certified today c i s = stepOf (tokenAt today (selecting (chainedTo (openedBy Pin) c) i)) s Protected (record { job = CertificateJob; verdict = Passed 7 }) [] [] 258
 
 -- the PIN chosen while authenticated
 abbrev pub chosenIn : Stepped

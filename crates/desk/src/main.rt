@@ -1,7 +1,7 @@
 // A desk for trying a token by hand: a line from standard input, its answer to standard output.
 ghost use Prim.Native.Nat.{_<_};
 use buffers::put;
-use laid::Desk;
+use desk_token::Desk;
 use lines::answer;
 use text::find;
 use text::front;

@@ -12,7 +12,7 @@ use Rattle.objects.specs.Chain.{taken, any}
 use Rattle.objects.proofs.Chain.{taken-all, answered-all}
 use Rattle.strings.specs.Bytes.{allOf, longest}
 use Rattle.names.specs.Names.{isName, nameOf, noName, nameFits}
-use Rattle.points.specs.Points.{noPoint, pointFits}
+use Rattle.certificate.specs.Certificate.{noCertificate, certificateFits}
 use Rattle.keys.specs.Keys.{isKey, keyOf, noKey, keyFits, keyStands}
 use Rattle.rights.specs.Rights.{isRights, rightsOf, granted, rightsFit}
 use Rattle.names.proofs.Kept.{name-good}
@@ -20,17 +20,17 @@ use Rattle.keys.proofs.Kept.{key-good, key-there}
 use Rattle.rights.proofs.Kept.{rights-good}
 use Rattle.strings.specs.declared.Class.the-variants.{Numeral}
 use Rattle.names.specs.declared.Name.{Name}
-use Rattle.points.specs.declared.Point.{Point}
+use Rattle.certificate.specs.declared.Certificate.{Certificate}
 use Rattle.keys.specs.declared.Key.{Key}
 use Rattle.rights.specs.declared.Rights.{Rights}
 use Rattle.rights.specs.declared.Granted.the-variants.{These, NoRights}
 use Rattle.run.specs.Run.{rightsNamed}
 use Rattle.run.specs.declared.Choice.{Choice}
 use Rattle.run.specs.declared.Choice.the-variants.{Mrz, Can, CanFor, Pin, PinFor, Puk}
-use Rattle.certificate.specs.Body.{taMechanism, isSignature, signedOf}
+use Rattle.bodies.specs.Body.{taMechanism, isSignature, signedOf}
 use Rattle.status.specs.declared.Intake.{Intake}
 use Rattle.status.specs.declared.Intake.the-variants.{Accepted as WasRead, Unfit}
-use Rattle.certificate.proofs.Good.{signed-good}
+use Rattle.bodies.proofs.Good.{signed-good}
 use Rattle.command.specs.Shape.{shapeOf}
 use Rattle.command.specs.declared.kind.Kind.{Kind}
 use Rattle.command.specs.declared.kind.Kind.the-variants.{ChoosePassword, General as KindGeneral, SelectIssuer, VerifyCertificate, Announce as KindAnnounce, Challenge as KindChallenge, ProveTerminal, ChooseChipKey as KindChip, Read as KindRead, ChangePin as KindPin, Unblock as KindUnblock, Activate as KindActivate, Deactivate as KindDeactivate}
@@ -77,12 +77,12 @@ abbrev pub RightsIn : Choice → Type 0
 RightsIn c = (r : Rights) → rightsNamed c ≡ These r → rightsFit r ≡ true
 
 -- what is named with each ask is within its limits
-abbrev pub Within : Ask → Name → Point → Key → Type 0
+abbrev pub Within : Ask → Name → Certificate → Key → Type 0
 Within Bad n p k = Unit {0}
 Within (Choose c) n p k = RightsIn c
 Within (General c) n p k = Unit {0}
 Within Select n p k = nameFits n ≡ true
-Within Verify n p k = (pointFits p ≡ true) × (nameFits n ≡ true)
+Within Verify n p k = (certificateFits p ≡ true) × (nameFits n ≡ true)
 Within Announce n p k = (keyFits k ≡ true) × (keyStands k ≡ true) × (nameFits n ≡ true)
 Within Challenge n p k = Unit {0}
 Within Prove n p k = Unit {0}
@@ -95,10 +95,10 @@ Within Deactivate n p k = Unit {0}
 
 record Sound (k : Kind) (g : Given) : Type 0 where
   of : Of k (g .ask)
-  limits : Within (g .ask) (g .name) (g .point) (g .key)
+  limits : Within (g .ask) (g .name) (g .certificate) (g .key)
 
 -- with nothing named
-only-sound : (k : Kind) (a : Ask) → Of k a → Within a noName noPoint noKey → Sound k (only a)
+only-sound : (k : Kind) (a : Ask) → Of k a → Within a noName noCertificate noKey → Sound k (only a)
 unfolding only
 only-sound k a h w = record { of = h; limits = w }
 
@@ -226,7 +226,7 @@ unfolding verifyOf verified verifying
 verify-sound s = go (signedOf s .answer) refl
   where
     go : (a : Intake) → signedOf s .answer ≡ a → Sound VerifyCertificate (verified a (signedOf s .body))
-    go WasRead e = let g = signed-good s e in record { of = of-verify; limits = (g .point, g .issuer) }
+    go WasRead e = let g = signed-good s e in record { of = of-verify; limits = (g .certificate, g .issuer) }
     go Unfit e = sound-bad VerifyCertificate
 
 key-sound : (name : Name) → nameFits name ≡ true → (s : List ℕ) (n : ℕ) → Sound KindAnnounce (keyThen name s n)
@@ -263,23 +263,23 @@ data-sound KindActivate h s = only-sound KindActivate Activate of-activate tt
 data-sound KindDeactivate h s = only-sound KindDeactivate Deactivate of-deactivate tt
 
 module _ (s : List ℕ) (k : Kind) (b : Bool) (x : Ask) (e : askedOf s .request ≡ Asks k b x) where
-  asked-sound : Of k x × Within x (askedOf s .name) (askedOf s .point) (askedOf s .key)
+  asked-sound : Of k x × Within x (askedOf s .name) (askedOf s .certificate) (askedOf s .key)
   unfolding askedOf refusing asking
   asked-sound = go (shapeOf s) (shape-in s) e
     where
-      go : (h : Shape) → ShapeIn h → askedBy s h .request ≡ Asks k b x → Of k x × Within x (askedBy s h .name) (askedBy s h .point) (askedBy s h .key)
+      go : (h : Shape) → ShapeIn h → askedBy s h .request ≡ Asks k b x → Of k x × Within x (askedBy s h .name) (askedBy s h .certificate) (askedBy s h .key)
       go (Faulty f) i q = true-false cc
       go (Command j c m n) i q =
           let g = data-sound j i (part m n s) in
           let u : j ≡ k = cc in
           let v : dataOf j (part m n s) .ask ≡ x = cc in
           let d : Given = dataOf j (part m n s) in
-          (subst (λ (y : Kind). Of y x) u (subst (Of j) v (g .of)), subst (λ (y : Ask). Within y (d .name) (d .point) (d .key)) v (g .limits))
+          (subst (λ (y : Kind). Of y x) u (subst (Of j) v (g .of)), subst (λ (y : Ask). Within y (d .name) (d .certificate) (d .key)) v (g .limits))
 
   -- kind and ask agree
   pub kind-of : Of k x
   kind-of = asked-sound .0
 
   -- what is named is within its limits
-  pub within-limits : Within x (askedOf s .name) (askedOf s .point) (askedOf s .key)
+  pub within-limits : Within x (askedOf s .name) (askedOf s .certificate) (askedOf s .key)
   within-limits = asked-sound .1

@@ -29,12 +29,12 @@ use Rattle.objects.proofs.Chain.{rest, found-start, found-end, nest-counts, nes
 use Rattle.strings.specs.Bytes.{among, allOf, longest}
 use Rattle.strings.specs.declared.Class.the-variants.{Numeral}
 use Rattle.names.specs.Names.{isName, noName, nameOf}
-use Rattle.points.specs.Points.{noPoint}
+use Rattle.certificate.specs.Certificate.{noCertificate}
 use Rattle.keys.specs.Keys.{noKey, keyOf}
 use Rattle.rights.specs.Rights.{isRights, granted, rightsOf}
-use Rattle.certificate.proofs.Contents.{rights-count}
+use Rattle.bodies.proofs.Contents.{rights-count}
 use Rattle.names.specs.declared.Name.{Name}
-use Rattle.points.specs.declared.Point.{Point}
+use Rattle.certificate.specs.declared.Certificate.{Certificate}
 use Rattle.keys.specs.declared.Key.{Key}
 use Rattle.rights.specs.declared.Rights.{Rights}
 use Rattle.rights.specs.declared.Granted.{Granted}
@@ -45,8 +45,8 @@ use Rattle.command.specs.declared.Fault.{Fault}
 use Rattle.command.specs.declared.Shape.{Shape}
 use Rattle.command.specs.declared.Shape.the-variants.{Command, Faulty}
 use Rattle.command.proofs.Shapes.{data-starts, data-ends}
-use Rattle.certificate.specs.Body.{signedOf}
-use Rattle.certificate.specs.declared.Reading.{Reading}
+use Rattle.bodies.specs.Body.{signedOf}
+use Rattle.bodies.specs.declared.Reading.{Reading}
 use Rattle.status.specs.declared.Intake.the-variants.{Accepted, Unfit}
 use Rattle.event.specs.declared.Refusal.{Refusal}
 use Rattle.fields.specs.Taking.{sized, fitted, lastOf, holds}
@@ -246,24 +246,24 @@ pin-way s b x e y = y ∙ rw e
 
 -- ---- what is given
 
-module _ (n : Name) (p : Point) (k : Key) where
-  pub only-is : (a : Ask) → n ≡ noName → p ≡ noPoint → k ≡ noKey → _≡_ {A = Given} (record { ask = a; name = n; point = p; key = k }) (only a)
+module _ (n : Name) (p : Certificate) (k : Key) where
+  pub only-is : (a : Ask) → n ≡ noName → p ≡ noCertificate → k ≡ noKey → _≡_ {A = Given} (record { ask = a; name = n; certificate = p; key = k }) (only a)
   unfolding only
   only-is a e f g = rw (e, f, g)
 
-  pub selecting-is : p ≡ noPoint → k ≡ noKey → _≡_ {A = Given} (record { ask = Select; name = n; point = p; key = k }) (selecting n)
+  pub selecting-is : p ≡ noCertificate → k ≡ noKey → _≡_ {A = Given} (record { ask = Select; name = n; certificate = p; key = k }) (selecting n)
   unfolding selecting
   selecting-is f g = rw (f, g)
 
-  pub verifying-is : k ≡ noKey → _≡_ {A = Given} (record { ask = Verify; name = n; point = p; key = k }) (verifying n p)
+  pub verifying-is : k ≡ noKey → _≡_ {A = Given} (record { ask = Verify; name = n; certificate = p; key = k }) (verifying n p)
   unfolding verifying
   verifying-is g = rw g
 
-  pub announcing-is : p ≡ noPoint → _≡_ {A = Given} (record { ask = Announce; name = n; point = p; key = k }) (announcing n k)
+  pub announcing-is : p ≡ noCertificate → _≡_ {A = Given} (record { ask = Announce; name = n; certificate = p; key = k }) (announcing n k)
   unfolding announcing
   announcing-is f = rw f
 
-  pub refusing-is : (r : Refusal) → n ≡ noName → p ≡ noPoint → k ≡ noKey → _≡_ {A = Asked} (record { request = Refuses r; name = n; point = p; key = k }) (refusing r)
+  pub refusing-is : (r : Refusal) → n ≡ noName → p ≡ noCertificate → k ≡ noKey → _≡_ {A = Asked} (record { request = Refuses r; name = n; certificate = p; key = k }) (refusing r)
   unfolding refusing
   refusing-is r e f g = rw (e, f, g)
 
@@ -274,7 +274,7 @@ pub announce-on : (c : List ℕ) (n : Name) (k : Key) (x : Given) → k ≡ keyO
 announce-on c n k x e y = y ∙ ap (announcing n) e
 
 module _ (s : List ℕ) (r : Reading) (is : r ≡ signedOf s) (x : Given) where
-  pub verify-on : r .answer ≡ Accepted → x ≡ verifying (r .body .issuer) (r .body .point) → x ≡ verifyOf s
+  pub verify-on : r .answer ≡ Accepted → x ≡ verifying (r .body .issuer) (r .body .certificate) → x ≡ verifyOf s
   unfolding verifyOf verified
   verify-on e y = y ∙ rw (← is, e)
 

@@ -11,7 +11,7 @@ use Rattle.objects.specs.declared.Found.{Found}
 use Rattle.objects.specs.declared.Found.the-variants.{Content, Missing}
 use Rattle.names.specs.Names.{isName, nameOf}
 use Rattle.keys.specs.Keys.{isKey, keyOf}
-use Rattle.certificate.specs.Body.{taMechanism}
+use Rattle.bodies.specs.Body.{taMechanism}
 use Rattle.names.specs.declared.Name.{Name}
 use Rattle.fields.specs.Taking.{reading, lastly, isAll}
 use Rattle.fields.specs.Given.{bad, announcing}

@@ -4,7 +4,7 @@ use mathlib.Core.List.{List}
 use mathlib.Core.Bool.{Bool}
 use Rattle.objects.specs.Objects.{part}
 use Rattle.names.specs.Names.{noName}
-use Rattle.points.specs.Points.{noPoint}
+use Rattle.certificate.specs.Certificate.{noCertificate}
 use Rattle.keys.specs.Keys.{noKey}
 use Rattle.command.specs.Shape.{shapeOf}
 use Rattle.command.specs.declared.kind.Kind.{Kind}
@@ -52,10 +52,10 @@ dataOf Activate s = only AskActivate
 dataOf Deactivate s = only AskDeactivate
 
 unfoldable pub refusing : Refusal → Asked
-refusing r = record { request = Refused r; name = noName; point = noPoint; key = noKey }
+refusing r = record { request = Refused r; name = noName; certificate = noCertificate; key = noKey }
 
 unfoldable pub asking : Kind → Bool → Given → Asked
-asking k chained g = record { request = Asks k chained (g .ask); name = g .name; point = g .point; key = g .key }
+asking k chained g = record { request = Asks k chained (g .ask); name = g .name; certificate = g .certificate; key = g .key }
 
 abbrev pub askedBy : List ℕ → Shape → Asked
 askedBy s (Faulty f) = refusing (faultOf f)

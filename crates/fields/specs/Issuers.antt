@@ -3,8 +3,8 @@ use Prim.Native.Nat.{ℕ}
 use mathlib.Core.List.{List}
 use mathlib.Core.Bool.{false}
 use Rattle.names.specs.Names.{isName, nameOf}
-use Rattle.certificate.specs.Body.{signedOf}
-use Rattle.certificate.specs.declared.Body.{Body}
+use Rattle.bodies.specs.Body.{signedOf}
+use Rattle.bodies.specs.declared.Body.{Body}
 use Rattle.status.specs.declared.Intake.{Intake}
 use Rattle.status.specs.declared.Intake.the-variants.{Accepted, Unfit}
 use Rattle.fields.specs.Taking.{reading, lastly}
@@ -17,7 +17,7 @@ selectOf s = reading bad s (lastly bad 0x83 false isName s (λ c. selecting (nam
 
 -- the issuer's name is 42
 unfoldable pub verified : Intake → Body → Given
-verified Accepted b = verifying (b .issuer) (b .point)
+verified Accepted b = verifying (b .issuer) (b .certificate)
 verified Unfit b = bad
 
 -- 7F4E, 5F37

@@ -6,7 +6,7 @@ use lib.ListN.{length}
 use lib.Dec.{eqb}
 use Rattle.strings.specs.Bytes.{allOf}
 use Rattle.strings.specs.declared.Class.the-variants.{Numeral}
-use Rattle.certificate.specs.Body.{isSignature}
+use Rattle.bodies.specs.Body.{isSignature}
 use Rattle.fields.specs.declared.asked.Ask.{Ask}
 use Rattle.fields.specs.declared.asked.Ask.the-variants.{Bad, Prove, ChangePin}
 

@@ -13,7 +13,7 @@ use super::taking::identified;
 use super::taking::last;
 use super::taking::named;
 use super::taking::sized;
-use certificate::MECHANISM;
+use bodies::MECHANISM;
 use keys::Key;
 use names::Name;
 use objects::Count;

@@ -1,9 +1,9 @@
 // What a command may ask for.
+use certificate::Certificate;
 use command::kind::Kind;
 use event::Refusal;
 use keys::Key;
 use names::Name;
-use points::Point;
 use run::Choice;
 use run::Step;
 
@@ -41,6 +41,6 @@ pub enum Request {
 pub struct Asked {
     pub request: Request,
     pub name: Name,
-    pub point: Point,
+    pub certificate: Certificate,
     pub key: Key,
 }

@@ -2,14 +2,14 @@
 ghost use mathlib.Core.Path.{_≡_};
 ghost use Rattle.fields.specs.Given.{only, selecting, verifying, announcing};
 use super::asked::Ask;
+use certificate::Certificate;
 use keys::Key;
 use names::Name;
-use points::Point;
 
 pub struct Given {
     pub ask: Ask,
     pub name: Name,
-    pub point: Point,
+    pub certificate: Certificate,
     pub key: Key,
 }
 
@@ -18,12 +18,12 @@ impl Given {
         ensures { λ r. ⌜ r ≡ only ask ⌝ }
     {
         let name = Name::none();
-        let point = Point::none();
+        let certificate = Certificate::none();
         let key = Key::none();
         Given {
             ask: ask,
             name: name,
-            point: point,
+            certificate: certificate,
             key: key,
         }
     }
@@ -31,24 +31,24 @@ impl Given {
     pub(crate) fn select(name: Name) -> Self
         ensures { λ r. ⌜ r ≡ selecting name ⌝ }
     {
-        let point = Point::none();
+        let certificate = Certificate::none();
         let key = Key::none();
         Given {
             ask: Ask::Select,
             name: name,
-            point: point,
+            certificate: certificate,
             key: key,
         }
     }
 
-    pub(crate) fn verify(issuer: Name, point: Point) -> Self
-        ensures { λ r. ⌜ r ≡ verifying issuer point ⌝ }
+    pub(crate) fn verify(issuer: Name, certificate: Certificate) -> Self
+        ensures { λ r. ⌜ r ≡ verifying issuer certificate ⌝ }
     {
         let key = Key::none();
         Given {
             ask: Ask::Verify,
             name: issuer,
-            point: point,
+            certificate: certificate,
             key: key,
         }
     }
@@ -56,11 +56,11 @@ impl Given {
     pub(crate) fn announce(name: Name, key: Key) -> Self
         ensures { λ r. ⌜ r ≡ announcing name key ⌝ }
     {
-        let point = Point::none();
+        let certificate = Certificate::none();
         Given {
             ask: Ask::Announce,
             name: name,
-            point: point,
+            certificate: certificate,
             key: key,
         }
     }

@@ -23,13 +23,13 @@ pub(crate) fn select(s: &[u8]) -> Given
 pub(crate) fn verify(s: &[u8]) -> Given
     ensures { λ r. ⌜ r ≡ verifyOf (now (s .entry)) ⌝ }
 {
-    let reading = certificate::read_signed(s);
+    let reading = bodies::read_signed(s);
     let answer = reading.answer;
     let body = reading.body;
     let issuer = body.issuer;
-    let point = body.point;
+    let certificate = body.certificate;
     match answer {
-        Intake::Accepted => Given::verify(issuer, point),
+        Intake::Accepted => Given::verify(issuer, certificate),
         Intake::Unfit => Given::only(Ask::Bad),
     }
 }

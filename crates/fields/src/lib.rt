@@ -4,6 +4,7 @@ ghost use Rattle.fields.specs.Asked.{askedOf, faultOf, dataOf, refusing,
 use asked::Ask;
 use asked::Asked;
 use asked::Request;
+use certificate::Certificate;
 use command::Fault;
 use command::Shape;
 use command::kind::Kind;
@@ -11,7 +12,6 @@ use event::Refusal;
 use given::Given;
 use keys::Key;
 use names::Name;
-use points::Point;
 
 mod announce;
 pub mod asked;
@@ -61,12 +61,12 @@ fn refused(r: Refusal) -> Asked
     ensures { λ a. ⌜ a ≡ refusing r ⌝ }
 {
     let name = Name::none();
-    let point = Point::none();
+    let certificate = Certificate::none();
     let key = Key::none();
     Asked {
         request: Request::Refused(r),
         name: name,
-        point: point,
+        certificate: certificate,
         key: key,
     }
 }
@@ -76,7 +76,7 @@ fn asks(kind: Kind, chained: bool, g: Given) -> Asked
 {
     let ask = g.ask;
     let name = g.name;
-    let point = g.point;
+    let certificate = g.certificate;
     let key = g.key;
     Asked {
         request: Request::Asks {
@@ -85,7 +85,7 @@ fn asks(kind: Kind, chained: bool, g: Given) -> Asked
             ask: ask,
         },
         name: name,
-        point: point,
+        certificate: certificate,
         key: key,
     }
 }

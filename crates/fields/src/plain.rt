@@ -12,7 +12,7 @@ pub(crate) fn proof(s: &[u8]) -> Ask
     ensures { λ r. ⌜ r ≡ proofOf (now (s .entry)) ⌝ }
 {
     let n = s.len();
-    if (1 <= n) & (n <= certificate::SIGNATURE) {
+    if (1 <= n) & (n <= bodies::SIGNATURE) {
         return Ask::Prove;
     }
     Ask::Bad

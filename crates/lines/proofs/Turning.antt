@@ -3,8 +3,8 @@ use Prim.Native.Nat.{ℕ}
 use mathlib.Core.Path.{_≡_, sym, ap, subst, _∙_}
 use mathlib.Core.List.{List}
 use borrow.Author.Tests.{eq-eqb, ne-eqb}
-use Rattle.laid.specs.declared.Desk.{Desk}
-use Rattle.laid.specs.Moves.{resetDesk, Made, unmade, Stepped, unstepped}
+use Rattle.desk_token.specs.declared.Desk.{Desk}
+use Rattle.desk_token.specs.Moves.{resetDesk, Made, unmade, Stepped, unstepped}
 use Rattle.words.specs.Words.{space, occurrences}
 use Rattle.words.specs.Verbs.{actOf}
 use Rattle.words.specs.declared.Verb.{Verb}

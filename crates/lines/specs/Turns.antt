@@ -4,8 +4,8 @@ use mathlib.Core.Path.{_≡_}
 use mathlib.Core.Bool.{cond}
 use mathlib.Core.List.{List}
 use lib.Dec.{eqb}
-use Rattle.laid.specs.declared.Desk.{Desk}
-use Rattle.laid.specs.Moves.{resetDesk, Made, Stepped}
+use Rattle.desk_token.specs.declared.Desk.{Desk}
+use Rattle.desk_token.specs.Moves.{resetDesk, Made, Stepped}
 use Rattle.words.specs.Words.{space, occurrences}
 use Rattle.words.specs.declared.Act.{Act}
 use Rattle.words.specs.declared.Act.the-variants.{Personalises, Sends, Resets, Tells}

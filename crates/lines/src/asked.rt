@@ -1,11 +1,11 @@
 // What a token wants, and which groups it would let be read.
-use course::Job;
-use course::Note;
+use plans::Job;
+use plans::Note;
 use reply::ROOM;
-use settle::Answered;
-use settle::Verdict;
 use text::front;
 use token::state::Token;
+use verdicts::Answered;
+use verdicts::Verdict;
 use wording::BYTES;
 use wording::asked::done;
 use wording::asked::read_group;

@@ -1,9 +1,9 @@
 // A token made anew.
 ghost use mathlib.Core.Path.{_≡_};
-ghost use Rattle.laid.specs.Moves.{laidOf, Made};
+ghost use Rattle.desk_token.specs.Moves.{personalisedOf, Made};
 use buffers::put;
-use laid::Desk;
-use laid::Turn;
+use desk_token::Desk;
+use desk_token::Turn;
 use status::Intake;
 use token::state::Personalised;
 use token::state::Token;
@@ -19,7 +19,7 @@ fn said(out: &mut [u8], made: Intake) -> usize {
 
 // The personalisation laid on the desk, and how that is answered.
 fn answered(desk: Desk, p: Personalised, out: &mut [u8]) -> Turn
-    ensures { λ r. ⌜ r .desk ≡ laidOf desk p ⌝ }
+    ensures { λ r. ⌜ r .desk ≡ personalisedOf desk p ⌝ }
 {
     let made = p.made;
     let len = said(&mut *out, made);

@@ -1,10 +1,10 @@
 // A command sent, with its crypto result.
-ghost use Rattle.laid.specs.Moves.{Stepped};
-use laid::Desk;
-use laid::Turn;
+ghost use Rattle.desk_token.specs.Moves.{Stepped};
+use desk_token::Desk;
+use desk_token::Turn;
 use reply::ROOM;
-use settle::Answered;
 use text::front;
+use verdicts::Answered;
 use wording::BYTES;
 use wording::send::Sent;
 use wording::send::read_sent;

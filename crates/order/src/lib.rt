@@ -1,10 +1,10 @@
 // The order of each command's own checks: ladders over tests, each rung a condition and its refusal, top to bottom.
 ghost use mathlib.Core.Path.{_≡_};
 ghost use Rattle.order.specs.Order.{chooseLadder, verifyLadder, grounded, unblockLadder};
-use course::Course;
-use course::Job;
 use event::Event;
 use event::Refusal;
+use plans::Ending;
+use plans::Job;
 use run::Choice;
 
 // Choose password: what is asked of the PIN and the PUK.
@@ -34,22 +34,22 @@ pub fn choose(
 }
 
 // Verify certificate.
-pub fn verify(misplaced: bool, repeated: bool, unnamed: bool, late: bool, taken: Event) -> Course
+pub fn verify(misplaced: bool, repeated: bool, unnamed: bool, late: bool, taken: Event) -> Ending
     ensures { λ r. ⌜ r ≡ verifyLadder misplaced repeated unnamed late taken ⌝ }
 {
     if misplaced {
-        return Course::Settled(Event::Refused(Refusal::Data));
+        return Ending::Settled(Event::Refused(Refusal::Data));
     }
     if repeated {
-        return Course::Settled(Event::Refused(Refusal::Data));
+        return Ending::Settled(Event::Refused(Refusal::Data));
     }
     if unnamed {
-        return Course::Settled(Event::Refused(Refusal::NotFound));
+        return Ending::Settled(Event::Refused(Refusal::NotFound));
     }
     if late {
-        return Course::Settled(Event::Refused(Refusal::Unusable));
+        return Ending::Settled(Event::Refused(Refusal::Unusable));
     }
-    Course::Awaits(Job::Certificate, taken, Event::NotPassed)
+    Ending::Awaits(Job::Certificate, taken, Event::NotPassed)
 }
 
 // What is done on a ground, and refused without one.

@@ -5,10 +5,10 @@ use Rattle.laws.proofs.Pinned.{Pinned, pinned}
 use Rattle.days.specs.declared.Day.{Day}
 use Rattle.keys.specs.declared.Key.{Key}
 use Rattle.names.specs.declared.Name.{Name}
-use Rattle.points.specs.declared.Point.{Point}
+use Rattle.certificate.specs.declared.Certificate.{Certificate}
 use Rattle.run.specs.declared.Choice.{Choice}
 use Rattle.event.specs.declared.Event.{Event}
-use Rattle.course.specs.declared.Plan.{Plan}
+use Rattle.plans.specs.declared.Plan.{Plan}
 use Rattle.fields.specs.declared.asked.Content.{Content}
 use Rattle.trust.specs.declared.Points.{Points}
 use Rattle.standing.specs.declared.Opened.{Opened}
@@ -42,5 +42,5 @@ set-active-pinned z done = pinned _
 pub select-pinned : (h : Points) (chain : Chain) (n : Name) → Pinned Plan (selectPlan h chain n)
 select-pinned h chain n = pinned _
 
-pub verify-pinned : (h : Points) (dv : Point) (today : Day) (selected : Selected) (n : Name) (p : Point) → Pinned Plan (verifyPlan h dv today selected n p)
+pub verify-pinned : (h : Points) (dv : Certificate) (today : Day) (selected : Selected) (n : Name) (p : Certificate) → Pinned Plan (verifyPlan h dv today selected n p)
 verify-pinned h dv today selected n p = pinned _

@@ -8,7 +8,7 @@ use Rattle.run.specs.declared.Choice.{Choice}
 use Rattle.run.specs.declared.Step.{Step}
 use Rattle.event.specs.declared.Issuer.{Issuer}
 use Rattle.event.specs.declared.Event.{Event}
-use Rattle.course.specs.declared.Course.{Course}
+use Rattle.plans.specs.declared.Ending.{Ending}
 use Rattle.order.specs.Order.{chooseLadder, verifyLadder, grounded, unblockLadder}
 use Rattle.outcome.specs.Outcome.{passedEvent, otherEvent, issues, takenEvent}
 
@@ -30,7 +30,7 @@ issues-pinned i role = pinned _
 pub taken-pinned : (role : Role) (trusted : Rights) → Pinned Event (takenEvent role trusted)
 taken-pinned role trusted = pinned _
 
-pub verify-pinned : (misplaced repeated unnamed late : Bool) (taken : Event) → Pinned Course (verifyLadder misplaced repeated unnamed late taken)
+pub verify-pinned : (misplaced repeated unnamed late : Bool) (taken : Event) → Pinned Ending (verifyLadder misplaced repeated unnamed late taken)
 verify-pinned misplaced repeated unnamed late taken = pinned _
 
 pub on-pinned : (ground : Bool) (done : Event) → Pinned Event (grounded ground done)

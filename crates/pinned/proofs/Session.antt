@@ -14,7 +14,7 @@ use mathlib.Core.Bool.{Bool}
 use Rattle.rights.specs.declared.Rights.{Rights}
 use Rattle.command.specs.declared.kind.Kind.{Kind}
 use Rattle.moment.specs.Moment.{momentOf}
-use Rattle.bounds.specs.Bounds.{contextFits}
+use Rattle.session_limits.specs.SessionLimits.{contextFits}
 use Rattle.authorization.specs.Authorization.{authorization}
 use Rattle.session.specs.declared.Context.{Context}
 use Rattle.standing.specs.Standing.{noChain}

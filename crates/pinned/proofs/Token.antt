@@ -7,13 +7,13 @@ use lib.ListN.{length}
 use Rattle.laws.proofs.Pinned.{Pinned, pinned}
 use Rattle.days.specs.declared.Day.{Day}
 use Rattle.keys.specs.declared.Key.{Key}
-use Rattle.points.specs.declared.Point.{Point}
-use Rattle.course.specs.Course.{courseJob}
+use Rattle.certificate.specs.declared.Certificate.{Certificate}
+use Rattle.plans.specs.Plans.{endingJob}
 use Rattle.event.specs.declared.Event.{Event}
-use Rattle.course.specs.declared.Note.{Note}
-use Rattle.course.specs.declared.Job.{Job}
-use Rattle.course.specs.declared.Plan.{Plan}
-use Rattle.settle.specs.declared.Answered.{Answered}
+use Rattle.plans.specs.declared.Note.{Note}
+use Rattle.plans.specs.declared.Job.{Job}
+use Rattle.plans.specs.declared.Plan.{Plan}
+use Rattle.verdicts.specs.declared.Answered.{Answered}
 use Rattle.trust.specs.Trust.{onePoint, twoPoints}
 use Rattle.buffers.specs.Lay.{Written}
 use Rattle.token.specs.State.{noToken, madeOf, resetOf}
@@ -30,10 +30,10 @@ use Rattle.token.specs.declared.step.Outcome.{Outcome}
 pub none-pinned : Pinned Token noToken
 none-pinned = pinned _
 
-pub with-one-pinned : (newest : Point) (today : Day) → Pinned Personalised (madeOf (onePoint newest) today)
+pub with-one-pinned : (newest : Certificate) (today : Day) → Pinned Personalised (madeOf (onePoint newest) today)
 with-one-pinned newest today = pinned _
 
-pub with-two-pinned : (newest previous : Point) (today : Day) → Pinned Personalised (madeOf (twoPoints newest previous) today)
+pub with-two-pinned : (newest previous : Certificate) (today : Day) → Pinned Personalised (madeOf (twoPoints newest previous) today)
 with-two-pinned newest previous today = pinned _
 
 pub reset-pinned : (t : Token) → Pinned Token (resetOf t)
@@ -47,10 +47,10 @@ in-limits-pinned t = pinned _
 pub plan-pinned : (t : Token) (s : List ℕ) (note : Note) → Pinned Plan (planOf t s note)
 plan-pinned t s note = pinned _
 
-pub job-pinned : (t : Token) (s : List ℕ) (note : Note) → Pinned Job (courseJob (planOf t s note .course))
+pub job-pinned : (t : Token) (s : List ℕ) (note : Note) → Pinned Job (endingJob (planOf t s note .ending))
 job-pinned t s note = pinned _
 
-pub after-pinned : (t : Token) (e : Event) (p : Point) (k : Key) → Pinned Token (afterOf t e p k)
+pub after-pinned : (t : Token) (e : Event) (p : Certificate) (k : Key) → Pinned Token (afterOf t e p k)
 after-pinned t e p k = pinned _
 
 -- ---- step: the token, the length, and the buffer at exit

@@ -2,16 +2,16 @@
 use mathlib.Core.Bool.{Bool}
 use Rattle.laws.proofs.Pinned.{Pinned, pinned}
 use Rattle.names.specs.declared.Name.{Name}
-use Rattle.points.specs.declared.Point.{Point}
+use Rattle.certificate.specs.declared.Certificate.{Certificate}
 use Rattle.event.specs.declared.Issuer.{Issuer}
 use Rattle.trust.specs.Trust.{onePoint, twoPoints, pointsFit, knows, found, issuerOf, linked}
 use Rattle.trust.specs.declared.Points.{Points}
 use Rattle.trust.specs.declared.Trusted.{Trusted}
 
-pub one-pinned : (newest : Point) → Pinned Points (onePoint newest)
+pub one-pinned : (newest : Certificate) → Pinned Points (onePoint newest)
 one-pinned newest = pinned _
 
-pub both-pinned : (newest previous : Point) → Pinned Points (twoPoints newest previous)
+pub both-pinned : (newest previous : Certificate) → Pinned Points (twoPoints newest previous)
 both-pinned newest previous = pinned _
 
 pub fit-pinned : (h : Points) → Pinned Bool (pointsFit h)
@@ -23,8 +23,8 @@ knows-pinned h n = pinned _
 pub find-pinned : (h : Points) (n : Name) → Pinned Trusted (found h n)
 find-pinned h n = pinned _
 
-pub issuer-pinned : (h : Points) (i : Issuer) (dv : Point) → Pinned Point (issuerOf h i dv)
+pub issuer-pinned : (h : Points) (i : Issuer) (dv : Certificate) → Pinned Certificate (issuerOf h i dv)
 issuer-pinned h i dv = pinned _
 
-pub linked-pinned : (h : Points) (link : Point) → Pinned Points (linked h link)
+pub linked-pinned : (h : Points) (link : Certificate) → Pinned Points (linked h link)
 linked-pinned h link = pinned _

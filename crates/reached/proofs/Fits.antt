@@ -8,14 +8,14 @@ use lib.ListN.{length}
 use borrow.Author.Tests.{not-false}
 use Rattle.laws.proofs.Bools.{true-false, and-l, and-7, or-l, of-both}
 use Rattle.names.specs.Names.{sameName}
-use Rattle.points.specs.Points.{noPoint, withKey}
+use Rattle.certificate.specs.Certificate.{noCertificate, withKey}
 use Rattle.days.specs.Days.{dayFits}
 use Rattle.keys.specs.Keys.{noKey}
 use Rattle.rights.specs.Rights.{roleOf, readsGroup}
 use Rattle.roles.specs.Roles.{isDv}
 use Rattle.names.specs.declared.Name.{Name}
 use Rattle.keys.specs.declared.Key.{Key}
-use Rattle.points.specs.declared.Point.{Point}
+use Rattle.certificate.specs.declared.Certificate.{Certificate}
 use Rattle.roles.specs.declared.Role.{Role}
 use Rattle.roles.specs.declared.Role.the-variants.{Cvca, OfficialDv, OtherDv, Terminal}
 use Rattle.command.specs.declared.kind.Kind.{Kind}
@@ -29,19 +29,19 @@ use Rattle.event.specs.declared.Issuer.{Issuer}
 use Rattle.event.specs.declared.Issuer.the-variants.{Newest, Previous, Dv}
 use Rattle.event.specs.declared.Event.{Event}
 use Rattle.event.specs.declared.Event.the-variants.{Refused, Lost, Chosen, StepPassed, Opened as IsOpened, RunClosed, TrialLost, Selected as IsSelected, LinkTaken, DvTaken, TerminalTaken, Announced as IsAnnounced, Challenged as IsChallenged, Proven as IsProven, ProofLost, ChipKeyChosen as IsChosen, Authenticated as IsAuthenticated, ChipLost, ReadAllowed, PinChanged, UnblockedByPuk, UnblockedByRight, Activated, Deactivated, NotPassed}
-use Rattle.course.specs.declared.Note.{Note}
-use Rattle.course.specs.declared.Guard.{Guard}
-use Rattle.course.specs.declared.Guard.the-variants.{Passes, Drops}
-use Rattle.course.specs.declared.Job.{Job}
-use Rattle.course.specs.declared.Job.the-variants.{Step as StepJob, Challenge as ChallengeJob, Proof, PinChange}
-use Rattle.course.specs.declared.Course.{Course}
-use Rattle.course.specs.declared.Course.the-variants.{Settled, Awaits}
-use Rattle.course.specs.declared.Plan.{Plan}
-use Rattle.settle.specs.declared.Answered.{Answered}
-use Rattle.settle.specs.declared.Happened.{Happened}
-use Rattle.course.specs.Course.{settledBy, awaitsBy, guardOf}
-use Rattle.settle.specs.Settle.{takenIn, endsBy, passesBy}
-use Rattle.settle.proofs.Settles.{settle-all}
+use Rattle.plans.specs.declared.Note.{Note}
+use Rattle.plans.specs.declared.Guard.{Guard}
+use Rattle.plans.specs.declared.Guard.the-variants.{Passes, Drops}
+use Rattle.plans.specs.declared.Job.{Job}
+use Rattle.plans.specs.declared.Job.the-variants.{Step as StepJob, Challenge as ChallengeJob, Proof, PinChange}
+use Rattle.plans.specs.declared.Ending.{Ending}
+use Rattle.plans.specs.declared.Ending.the-variants.{Settled, Awaits}
+use Rattle.plans.specs.declared.Plan.{Plan}
+use Rattle.verdicts.specs.declared.Answered.{Answered}
+use Rattle.verdicts.specs.declared.Happened.{Happened}
+use Rattle.plans.specs.Plans.{settledBy, awaitsBy, guardOf}
+use Rattle.verdicts.specs.Verdicts.{takenIn, endsBy, passesBy}
+use Rattle.verdicts.proofs.Decisions.{decided-all}
 use Rattle.order.specs.Order.{chooseLadder, verifyLadder, unblockLadder}
 use Rattle.outcome.specs.Outcome.{passedEvent, otherEvent, issues, takenEvent}
 use Rattle.trust.specs.Trust.{pointsFit, knows, found, issuerOf}
@@ -64,12 +64,12 @@ use Rattle.standing.specs.declared.Stage.the-variants.{Idle, Run, Announced, Ch
 use Rattle.standing.specs.Standing.{isOpen, openedByPin, openedByCan, openedByPuk, hasRights, hasDv, hasTerminal, isSelected, unproven, isAnnounced, isChallenged, isProven, isChosen}
 use Rattle.moment.specs.Moment.{momentOf}
 use Rattle.authorization.specs.Authorization.{authorization}
-use Rattle.bounds.specs.Bounds.{contextFits}
+use Rattle.session_limits.specs.SessionLimits.{contextFits}
 use Rattle.token.specs.declared.state.Token.{Token}
 use Rattle.token.specs.State.{uses, contextOf, chainOf}
 use Rattle.token.specs.Limits.{selectable, inLimits}
 use Rattle.checks.specs.Checks.{managesPin, isFor, choosePlan, runPlan, chipPlan, generalPlan, announcePlan, readPlan, changePlan, unblockPlan, activePlan}
-use Rattle.certify.specs.Certify.{selectBy, selectPlan, repeats, late, underCourse, underPlan, verifyPlan}
+use Rattle.certify.specs.Certify.{selectBy, selectPlan, repeats, late, underEnding, underPlan, verifyPlan}
 use Rattle.token.specs.Plan.{commandOf, timedOf, requestedOf, guarded, planOf}
 use Rattle.token.specs.Step.{happenedOf}
 
@@ -80,7 +80,7 @@ abbrev pub certifying : Token → Bool
 certifying t = hasRights (contextOf t .confirmed) && unproven (contextOf t .stage)
 
 -- a trust point that is held
-pub data Holds (h : Points) : Point → Type 0 where
+pub data Holds (h : Points) : Certificate → Type 0 where
   as-newest : Holds h (h .newest)
   as-previous : h .two ≡ true → Holds h (h .previous)
 
@@ -96,35 +96,35 @@ pub data Quiet : Ask → Type 0 where
   challenging : Quiet Challenge
   changing : Quiet ChangePin
 
-pub data Fits (t : Token) (a : Asked) : Event → Point → Key → Type 0 where
-  is-refused : {w : Refusal} {p : Point} {k : Key} → Fits t a (Refused w) p k
-  is-lost : {l : Loss} {p : Point} {k : Key} → Fits t a (Lost l) p k
-  is-chosen : {m : Kind} {ch : Bool} {c : Choice} {p : Point} {k : Key} → a .request ≡ Asks m ch (Choose c) → isPin (passwordOf c) && eqb (t .pin) 0 ≡ false → Fits t a (Chosen c (t .pin)) p k
-  is-stepped : {m : Kind} {ch : Bool} {x : Step} {c : Choice} {s : Step} {p : Point} {k : Key} → a .request ≡ Asks m ch (General (StepData x)) → contextOf t .stage ≡ Run c s → isLast s ≡ false → Fits t a (StepPassed c s) p k
-  is-opened : {m : Kind} {ch : Bool} {x : Step} {c : Choice} {s : Step} {p : Point} {k : Key} → a .request ≡ Asks m ch (General (StepData x)) → contextOf t .stage ≡ Run c s → isLast s ≡ true → Fits t a (IsOpened c) p k
-  is-run-closed : {m : Kind} {ch : Bool} {x : Step} {c : Choice} {s : Step} {p : Point} {k : Key} → a .request ≡ Asks m ch (General (StepData x)) → contextOf t .stage ≡ Run c s → Fits t a RunClosed p k
-  is-trial-lost : {m : Kind} {ch : Bool} {x : Step} {c : Choice} {s : Step} {p : Point} {k : Key} → a .request ≡ Asks m ch (General (StepData x)) → contextOf t .stage ≡ Run c s → Fits t a (TrialLost (t .pin - 1)) p k
-  is-selected : {m : Kind} {ch : Bool} {i : Issuer} {p : Point} {k : Key} → a .request ≡ Asks m ch Select → Selects t i → Fits t a (IsSelected i) p k
-  is-link-taken : (n : ℕ) {m : Kind} {ch : Bool} {k : Key} → a .request ≡ Asks m ch Verify → certifying t ≡ true → roleOf (a .point .rights) ≡ Cvca → knows (t .points) (a .point .name) ≡ false
-      → Fits t a LinkTaken (withKey (a .point) n) k
-  is-dv-taken : (n : ℕ) {m : Kind} {ch : Bool} {h : Point} {k : Key} → a .request ≡ Asks m ch Verify → certifying t ≡ true → isDv (roleOf (a .point .rights)) ≡ true → knows (t .points) (a .point .name) ≡ false
-      → Holds (t .points) h → sameName (a .name) (h .name) ≡ true → Fits t a (DvTaken (h .rights)) (withKey (a .point) n) k
-  is-terminal-taken : (n : ℕ) {m : Kind} {ch : Bool} {k : Key} → a .request ≡ Asks m ch Verify → certifying t ≡ true → roleOf (a .point .rights) ≡ Terminal → hasDv (chainOf t) ≡ true
-      → sameName (a .name) (chainOf t .dv .name) ≡ true → Fits t a TerminalTaken (withKey (a .point) n) k
-  is-announced : {m : Kind} {ch : Bool} {p : Point} → a .request ≡ Asks m ch Announce → hasTerminal (chainOf t) && unproven (contextOf t .stage) ≡ true → Fits t a IsAnnounced p (a .key)
-  is-challenged : {m : Kind} {ch : Bool} {p : Point} {k : Key} → a .request ≡ Asks m ch Challenge → isAnnounced (contextOf t .stage) || isChallenged (contextOf t .stage) ≡ true → Fits t a IsChallenged p k
-  is-proven : {m : Kind} {ch : Bool} {p : Point} {k : Key} → a .request ≡ Asks m ch Prove → isChallenged (contextOf t .stage) ≡ true → Fits t a IsProven p k
-  is-proof-lost : {m : Kind} {ch : Bool} {p : Point} {k : Key} → a .request ≡ Asks m ch Prove → isChallenged (contextOf t .stage) ≡ true → Fits t a ProofLost p k
-  is-chip-key-chosen : {m : Kind} {ch : Bool} {p : Point} {k : Key} → a .request ≡ Asks m ch ChooseChipKey → isProven (contextOf t .stage) || isChosen (contextOf t .stage) ≡ true → Fits t a IsChosen p k
-  is-authenticated : {m : Kind} {ch : Bool} {p : Point} {k : Key} → a .request ≡ Asks m ch (General Chip) → contextOf t .stage ≡ ChipKeyChosen → Fits t a IsAuthenticated p k
-  is-chip-lost : {m : Kind} {ch : Bool} {p : Point} {k : Key} → a .request ≡ Asks m ch (General Chip) → contextOf t .stage ≡ ChipKeyChosen → Fits t a ChipLost p k
-  not-passed : {m : Kind} {ch : Bool} {x : Ask} {p : Point} {k : Key} → a .request ≡ Asks m ch x → Quiet x → Fits t a NotPassed p k
-  is-read : {m : Kind} {ch : Bool} {n : ℕ} {p : Point} {k : Key} → a .request ≡ Asks m ch (Read n) → Fits t a ReadAllowed p k
-  is-changed : {m : Kind} {ch : Bool} {p : Point} {k : Key} → a .request ≡ Asks m ch ChangePin → Fits t a PinChanged p k
-  is-unblocked-puk : {m : Kind} {ch : Bool} {p : Point} {k : Key} → a .request ≡ Asks m ch Unblock → Fits t a UnblockedByPuk p k
-  is-unblocked : {m : Kind} {ch : Bool} {p : Point} {k : Key} → a .request ≡ Asks m ch Unblock → Fits t a UnblockedByRight p k
-  is-activated : {m : Kind} {ch : Bool} {p : Point} {k : Key} → a .request ≡ Asks m ch Activate → Fits t a Activated p k
-  is-deactivated : {m : Kind} {ch : Bool} {p : Point} {k : Key} → a .request ≡ Asks m ch Deactivate → Fits t a Deactivated p k
+pub data Fits (t : Token) (a : Asked) : Event → Certificate → Key → Type 0 where
+  is-refused : {w : Refusal} {p : Certificate} {k : Key} → Fits t a (Refused w) p k
+  is-lost : {l : Loss} {p : Certificate} {k : Key} → Fits t a (Lost l) p k
+  is-chosen : {m : Kind} {ch : Bool} {c : Choice} {p : Certificate} {k : Key} → a .request ≡ Asks m ch (Choose c) → isPin (passwordOf c) && eqb (t .pin) 0 ≡ false → Fits t a (Chosen c (t .pin)) p k
+  is-stepped : {m : Kind} {ch : Bool} {x : Step} {c : Choice} {s : Step} {p : Certificate} {k : Key} → a .request ≡ Asks m ch (General (StepData x)) → contextOf t .stage ≡ Run c s → isLast s ≡ false → Fits t a (StepPassed c s) p k
+  is-opened : {m : Kind} {ch : Bool} {x : Step} {c : Choice} {s : Step} {p : Certificate} {k : Key} → a .request ≡ Asks m ch (General (StepData x)) → contextOf t .stage ≡ Run c s → isLast s ≡ true → Fits t a (IsOpened c) p k
+  is-run-closed : {m : Kind} {ch : Bool} {x : Step} {c : Choice} {s : Step} {p : Certificate} {k : Key} → a .request ≡ Asks m ch (General (StepData x)) → contextOf t .stage ≡ Run c s → Fits t a RunClosed p k
+  is-trial-lost : {m : Kind} {ch : Bool} {x : Step} {c : Choice} {s : Step} {p : Certificate} {k : Key} → a .request ≡ Asks m ch (General (StepData x)) → contextOf t .stage ≡ Run c s → Fits t a (TrialLost (t .pin - 1)) p k
+  is-selected : {m : Kind} {ch : Bool} {i : Issuer} {p : Certificate} {k : Key} → a .request ≡ Asks m ch Select → Selects t i → Fits t a (IsSelected i) p k
+  is-link-taken : (n : ℕ) {m : Kind} {ch : Bool} {k : Key} → a .request ≡ Asks m ch Verify → certifying t ≡ true → roleOf (a .certificate .rights) ≡ Cvca → knows (t .points) (a .certificate .name) ≡ false
+      → Fits t a LinkTaken (withKey (a .certificate) n) k
+  is-dv-taken : (n : ℕ) {m : Kind} {ch : Bool} {h : Certificate} {k : Key} → a .request ≡ Asks m ch Verify → certifying t ≡ true → isDv (roleOf (a .certificate .rights)) ≡ true → knows (t .points) (a .certificate .name) ≡ false
+      → Holds (t .points) h → sameName (a .name) (h .name) ≡ true → Fits t a (DvTaken (h .rights)) (withKey (a .certificate) n) k
+  is-terminal-taken : (n : ℕ) {m : Kind} {ch : Bool} {k : Key} → a .request ≡ Asks m ch Verify → certifying t ≡ true → roleOf (a .certificate .rights) ≡ Terminal → hasDv (chainOf t) ≡ true
+      → sameName (a .name) (chainOf t .dv .name) ≡ true → Fits t a TerminalTaken (withKey (a .certificate) n) k
+  is-announced : {m : Kind} {ch : Bool} {p : Certificate} → a .request ≡ Asks m ch Announce → hasTerminal (chainOf t) && unproven (contextOf t .stage) ≡ true → Fits t a IsAnnounced p (a .key)
+  is-challenged : {m : Kind} {ch : Bool} {p : Certificate} {k : Key} → a .request ≡ Asks m ch Challenge → isAnnounced (contextOf t .stage) || isChallenged (contextOf t .stage) ≡ true → Fits t a IsChallenged p k
+  is-proven : {m : Kind} {ch : Bool} {p : Certificate} {k : Key} → a .request ≡ Asks m ch Prove → isChallenged (contextOf t .stage) ≡ true → Fits t a IsProven p k
+  is-proof-lost : {m : Kind} {ch : Bool} {p : Certificate} {k : Key} → a .request ≡ Asks m ch Prove → isChallenged (contextOf t .stage) ≡ true → Fits t a ProofLost p k
+  is-chip-key-chosen : {m : Kind} {ch : Bool} {p : Certificate} {k : Key} → a .request ≡ Asks m ch ChooseChipKey → isProven (contextOf t .stage) || isChosen (contextOf t .stage) ≡ true → Fits t a IsChosen p k
+  is-authenticated : {m : Kind} {ch : Bool} {p : Certificate} {k : Key} → a .request ≡ Asks m ch (General Chip) → contextOf t .stage ≡ ChipKeyChosen → Fits t a IsAuthenticated p k
+  is-chip-lost : {m : Kind} {ch : Bool} {p : Certificate} {k : Key} → a .request ≡ Asks m ch (General Chip) → contextOf t .stage ≡ ChipKeyChosen → Fits t a ChipLost p k
+  not-passed : {m : Kind} {ch : Bool} {x : Ask} {p : Certificate} {k : Key} → a .request ≡ Asks m ch x → Quiet x → Fits t a NotPassed p k
+  is-read : {m : Kind} {ch : Bool} {n : ℕ} {p : Certificate} {k : Key} → a .request ≡ Asks m ch (Read n) → Fits t a ReadAllowed p k
+  is-changed : {m : Kind} {ch : Bool} {p : Certificate} {k : Key} → a .request ≡ Asks m ch ChangePin → Fits t a PinChanged p k
+  is-unblocked-puk : {m : Kind} {ch : Bool} {p : Certificate} {k : Key} → a .request ≡ Asks m ch Unblock → Fits t a UnblockedByPuk p k
+  is-unblocked : {m : Kind} {ch : Bool} {p : Certificate} {k : Key} → a .request ≡ Asks m ch Unblock → Fits t a UnblockedByRight p k
+  is-activated : {m : Kind} {ch : Bool} {p : Certificate} {k : Key} → a .request ≡ Asks m ch Activate → Fits t a Activated p k
+  is-deactivated : {m : Kind} {ch : Bool} {p : Certificate} {k : Key} → a .request ≡ Asks m ch Deactivate → Fits t a Deactivated p k
 
 -- ---- a state within its limits, rung by rung
 
@@ -180,21 +180,21 @@ wantsVerdict Deactivated = false
 wantsVerdict NotPassed = false
 
 -- what comes without a verdict needs none
-data Course·Fits (t : Token) (a : Asked) (p : Point) (k : Key) : Course → Type 0 where
-  at-once : {e : Event} → Fits t a e p k → wantsVerdict e ≡ false → Course·Fits t a p k (Settled e)
-  in-time : {j : Job} {x y : Event} → ((n : ℕ) → Fits t a x (takenIn j p n) k) → Fits t a y p k → wantsVerdict y ≡ false → Course·Fits t a p k (Awaits j x y)
+data Ending·Fits (t : Token) (a : Asked) (p : Certificate) (k : Key) : Ending → Type 0 where
+  at-once : {e : Event} → Fits t a e p k → wantsVerdict e ≡ false → Ending·Fits t a p k (Settled e)
+  in-time : {j : Job} {x y : Event} → ((n : ℕ) → Fits t a x (takenIn j p n) k) → Fits t a y p k → wantsVerdict y ≡ false → Ending·Fits t a p k (Awaits j x y)
 
--- what a course gives without a good result
-abbrev pub without : Course → Event
+-- what an ending gives without a good result
+abbrev pub without : Ending → Event
 without (Settled e) = e
 without (Awaits j x y) = y
 
-modest : {t : Token} {a : Asked} {p : Point} {k : Key} {c : Course} → Course·Fits t a p k c → wantsVerdict (without c) ≡ false
+modest : {t : Token} {a : Asked} {p : Certificate} {k : Key} {c : Ending} → Ending·Fits t a p k c → wantsVerdict (without c) ≡ false
 modest (at-once f w) = w
 modest (in-time f g w) = w
 
 abbrev Plan·Fits : Token → Asked → Plan → Type 0
-Plan·Fits t a q = Course·Fits t a (q .point) (q .key) (q .course)
+Plan·Fits t a q = Ending·Fits t a (q .certificate) (q .key) (q .ending)
 
 -- one check of a ladder, with what it tells
 rung : {A : Type 0} (P : A → Type 0) (b : Bool) {x y : A} → (b ≡ true → P x) → (b ≡ false → P y) → P (cond b x y)
@@ -203,7 +203,7 @@ rung P false f g = g refl
 
 module _ (t : Token) (a : Asked) where
   abbrev Bare : Event → Type 0
-  Bare e = Fits t a e noPoint noKey
+  Bare e = Fits t a e noCertificate noKey
 
   abbrev On : Event → Type 0
   On e = Bare e × (wantsVerdict e ≡ false)
@@ -218,7 +218,7 @@ module _ (t : Token) (a : Asked) where
   refuses : (w : Refusal) → Plan·Fits t a (settledBy (Refused w))
   refuses w = once (Refused w) refused
 
-  waits : (j : Job) (x y : Event) → ((n : ℕ) → Fits t a x (takenIn j noPoint n) noKey) → On y → Plan·Fits t a (awaitsBy j x y)
+  waits : (j : Job) (x y : Event) → ((n : ℕ) → Fits t a x (takenIn j noCertificate n) noKey) → On y → Plan·Fits t a (awaitsBy j x y)
   unfolding awaitsBy
   waits j x y f g = in-time f (g .0) (g .1)
 
@@ -241,8 +241,8 @@ module _ (t : Token) (a : Asked) where
   choose-ways false false false true c n f = refused
   choose-ways false false false false c n f = f refl
 
-  verify-ways : (m r u l : Bool) (x : Event) → (m ≡ false → r ≡ false → u ≡ false → (n : ℕ) → Fits t a x (withKey (a .point) n) noKey) → Fits t a NotPassed (a .point) noKey
-      → Course·Fits t a (a .point) noKey (verifyLadder m r u l x)
+  verify-ways : (m r u l : Bool) (x : Event) → (m ≡ false → r ≡ false → u ≡ false → (n : ℕ) → Fits t a x (withKey (a .certificate) n) noKey) → Fits t a NotPassed (a .certificate) noKey
+      → Ending·Fits t a (a .certificate) noKey (verifyLadder m r u l x)
   verify-ways true r u l x f g = at-once is-refused refl
   verify-ways false true u l x f g = at-once is-refused refl
   verify-ways false false true l x f g = at-once is-refused refl
@@ -307,32 +307,32 @@ module _ (t : Token) (a : Asked) where
 
     -- under each issuer, each role
     module _ (q : a .request ≡ Asks m ch Verify) (c : certifying t ≡ true) where
-      taken-fits : (i : Issuer) (o : Role) → roleOf (a .point .rights) ≡ o → selectable (Chose i) (t .points .two) (hasDv (chainOf t)) ≡ true → not (issues i o) ≡ false
-          → repeats (t .points) (chainOf t .dv) (a .point .name) o ≡ false → not (sameName (a .name) (issuerOf (t .points) i (chainOf t .dv) .name)) ≡ false
-          → (n : ℕ) → Fits t a (takenEvent o (issuerOf (t .points) i (chainOf t .dv) .rights)) (withKey (a .point) n) noKey
+      taken-fits : (i : Issuer) (o : Role) → roleOf (a .certificate .rights) ≡ o → selectable (Chose i) (t .points .two) (hasDv (chainOf t)) ≡ true → not (issues i o) ≡ false
+          → repeats (t .points) (chainOf t .dv) (a .certificate .name) o ≡ false → not (sameName (a .name) (issuerOf (t .points) i (chainOf t .dv) .name)) ≡ false
+          → (n : ℕ) → Fits t a (takenEvent o (issuerOf (t .points) i (chainOf t .dv) .rights)) (withKey (a .certificate) n) noKey
       unfolding repeats
-      taken-fits Newest Cvca r s e f g n = is-link-taken n q c r (or-l (knows (t .points) (a .point .name)) _ f)
-      taken-fits Newest OfficialDv r s e f g n = is-dv-taken n q c (rw r) (or-l (knows (t .points) (a .point .name)) _ f) as-newest (not-false _ g)
-      taken-fits Newest OtherDv r s e f g n = is-dv-taken n q c (rw r) (or-l (knows (t .points) (a .point .name)) _ f) as-newest (not-false _ g)
+      taken-fits Newest Cvca r s e f g n = is-link-taken n q c r (or-l (knows (t .points) (a .certificate .name)) _ f)
+      taken-fits Newest OfficialDv r s e f g n = is-dv-taken n q c (rw r) (or-l (knows (t .points) (a .certificate .name)) _ f) as-newest (not-false _ g)
+      taken-fits Newest OtherDv r s e f g n = is-dv-taken n q c (rw r) (or-l (knows (t .points) (a .certificate .name)) _ f) as-newest (not-false _ g)
       taken-fits Newest Terminal r s e f g n = true-false e
-      taken-fits Previous Cvca r s e f g n = is-link-taken n q c r (or-l (knows (t .points) (a .point .name)) _ f)
-      taken-fits Previous OfficialDv r s e f g n = is-dv-taken n q c (rw r) (or-l (knows (t .points) (a .point .name)) _ f) (as-previous s) (not-false _ g)
-      taken-fits Previous OtherDv r s e f g n = is-dv-taken n q c (rw r) (or-l (knows (t .points) (a .point .name)) _ f) (as-previous s) (not-false _ g)
+      taken-fits Previous Cvca r s e f g n = is-link-taken n q c r (or-l (knows (t .points) (a .certificate .name)) _ f)
+      taken-fits Previous OfficialDv r s e f g n = is-dv-taken n q c (rw r) (or-l (knows (t .points) (a .certificate .name)) _ f) (as-previous s) (not-false _ g)
+      taken-fits Previous OtherDv r s e f g n = is-dv-taken n q c (rw r) (or-l (knows (t .points) (a .certificate .name)) _ f) (as-previous s) (not-false _ g)
       taken-fits Previous Terminal r s e f g n = true-false e
       taken-fits Dv Cvca r s e f g n = true-false e
       taken-fits Dv OfficialDv r s e f g n = true-false e
       taken-fits Dv OtherDv r s e f g n = true-false e
       taken-fits Dv Terminal r s e f g n = is-terminal-taken n q c r s (not-false _ g)
 
-      under-fits : (i : Issuer) → selectable (Chose i) (t .points .two) (hasDv (chainOf t)) ≡ true → Plan·Fits t a (underPlan (t .points) (chainOf t .dv) (t .today) i (a .name) (a .point))
-      unfolding underPlan underCourse
+      under-fits : (i : Issuer) → selectable (Chose i) (t .points .two) (hasDv (chainOf t)) ≡ true → Plan·Fits t a (underPlan (t .points) (chainOf t .dv) (t .today) i (a .name) (a .certificate))
+      unfolding underPlan underEnding
       under-fits i s =
-          let o : Role = roleOf (a .point .rights) in
-          let h : Point = issuerOf (t .points) i (chainOf t .dv) in
-          verify-ways (not (issues i o)) (repeats (t .points) (chainOf t .dv) (a .point .name) o) (not (sameName (a .name) (h .name))) (late (t .today) (a .point) h o) (takenEvent o (h .rights)) (taken-fits i o refl s)
+          let o : Role = roleOf (a .certificate .rights) in
+          let h : Certificate = issuerOf (t .points) i (chainOf t .dv) in
+          verify-ways (not (issues i o)) (repeats (t .points) (chainOf t .dv) (a .certificate .name) o) (not (sameName (a .name) (h .name))) (late (t .today) (a .certificate) h o) (takenEvent o (h .rights)) (taken-fits i o refl s)
           (not-passed q verifying)
 
-      verify-fits : (s : Selected) → selectable s (t .points .two) (hasDv (chainOf t)) ≡ true → Plan·Fits t a (verifyPlan (t .points) (chainOf t .dv) (t .today) s (a .name) (a .point))
+      verify-fits : (s : Selected) → selectable s (t .points .two) (hasDv (chainOf t)) ≡ true → Plan·Fits t a (verifyPlan (t .points) (chainOf t .dv) (t .today) s (a .name) (a .certificate))
       unfolding verifyPlan
       verify-fits NoIssuer e = refuses Moment
       verify-fits (Chose i) e = under-fits i e
@@ -394,31 +394,31 @@ module _ (t : Token) (s : List ℕ) where
       (λ e. guard-fits t (askedOf s) (guardOf note (isOpen (contextOf t .opened))) _ (request-fits (not-false (inLimits t) e) (askedOf s .request) refl))
 
   -- no event that wants a verdict comes without a good one
-  pub plan-modest : (note : Note) → wantsVerdict (without (planOf t s note .course)) ≡ false
+  pub plan-modest : (note : Note) → wantsVerdict (without (planOf t s note .ending)) ≡ false
   plan-modest note = modest (plan-fits note)
 
   -- what happens fits
   pub fits : (note : Note) (r : Answered) (first second : List ℕ)
-      → Fits t (askedOf s) (happenedOf t s note r first second .event) (happenedOf t s note r first second .point) (happenedOf t s note r first second .key)
+      → Fits t (askedOf s) (happenedOf t s note r first second .event) (happenedOf t s note r first second .certificate) (happenedOf t s note r first second .key)
   unfolding endsBy passesBy
   fits note r first second =
-      settle-all (λ (h : Happened). Fits t (askedOf s) (h .event) (h .point) (h .key)) q r (length first) second (λ e i. settled i (plan-fits note)) (λ j x y i. otherwise i (plan-fits note))
+      decided-all (λ (h : Happened). Fits t (askedOf s) (h .event) (h .certificate) (h .key)) q r (length first) second (λ e i. settled i (plan-fits note)) (λ j x y i. otherwise i (plan-fits note))
       (λ j x y i f n. passed n i (plan-fits note))
     where
       q : Plan
       q = planOf t s note
 
-      settled : {c : Course} {e : Event} → c ≡ Settled e → Course·Fits t (askedOf s) (q .point) (q .key) c → Fits t (askedOf s) e (q .point) (q .key)
-      settled i (at-once f w) = subst (λ (x : Event). Fits t (askedOf s) x (q .point) (q .key)) (cc) f
+      settled : {c : Ending} {e : Event} → c ≡ Settled e → Ending·Fits t (askedOf s) (q .certificate) (q .key) c → Fits t (askedOf s) e (q .certificate) (q .key)
+      settled i (at-once f w) = subst (λ (x : Event). Fits t (askedOf s) x (q .certificate) (q .key)) (cc) f
       settled i (in-time f g w) = true-false (cc)
 
-      otherwise : {c : Course} {j : Job} {x y : Event} → c ≡ Awaits j x y → Course·Fits t (askedOf s) (q .point) (q .key) c → Fits t (askedOf s) y (q .point) (q .key)
+      otherwise : {c : Ending} {j : Job} {x y : Event} → c ≡ Awaits j x y → Ending·Fits t (askedOf s) (q .certificate) (q .key) c → Fits t (askedOf s) y (q .certificate) (q .key)
       otherwise i (at-once f w) = true-false (cc)
-      otherwise i (in-time f g w) = subst (λ (x : Event). Fits t (askedOf s) x (q .point) (q .key)) (cc) g
+      otherwise i (in-time f g w) = subst (λ (x : Event). Fits t (askedOf s) x (q .certificate) (q .key)) (cc) g
 
-      passed : {c : Course} {j : Job} {x y : Event} (n : ℕ) → c ≡ Awaits j x y → Course·Fits t (askedOf s) (q .point) (q .key) c → Fits t (askedOf s) x (takenIn j (q .point) n) (q .key)
+      passed : {c : Ending} {j : Job} {x y : Event} (n : ℕ) → c ≡ Awaits j x y → Ending·Fits t (askedOf s) (q .certificate) (q .key) c → Fits t (askedOf s) x (takenIn j (q .certificate) n) (q .key)
       passed n i (at-once f w) = true-false (cc)
       passed {j = j} {x = x} n i (in-time {j = k} {x = z} f g w) =
           let u : k ≡ j = cc in
           let v : z ≡ x = cc in
-          subst (λ (m : Job). Fits t (askedOf s) x (takenIn m (q .point) n) (q .key)) u (subst (λ (w : Event). Fits t (askedOf s) w (takenIn k (q .point) n) (q .key)) v (f n))
+          subst (λ (m : Job). Fits t (askedOf s) x (takenIn m (q .certificate) n) (q .key)) u (subst (λ (w : Event). Fits t (askedOf s) w (takenIn k (q .certificate) n) (q .key)) v (f n))

@@ -7,27 +7,27 @@ use lib.Dec.{eqb, ltb}
 use lib.ListN.{length, take}
 use Rattle.laws.proofs.Bools.{true-false}
 use Rattle.keys.specs.declared.Key.{Key}
-use Rattle.points.specs.declared.Point.{Point}
+use Rattle.certificate.specs.declared.Certificate.{Certificate}
 use Rattle.run.specs.declared.Choice.{Choice}
 use Rattle.run.specs.declared.Step.the-variants.{Confirm}
 use Rattle.run.specs.Run.{passwordOf, isPin}
 use Rattle.event.specs.declared.Refusal.{Refusal}
 use Rattle.event.specs.declared.Event.{Event}
 use Rattle.event.specs.declared.Event.the-variants.{Refused}
-use Rattle.course.specs.declared.Note.{Note}
-use Rattle.course.specs.declared.Job.{Job}
-use Rattle.course.specs.declared.Job.the-variants.{Nothing}
-use Rattle.course.specs.declared.Course.{Course}
-use Rattle.course.specs.declared.Course.the-variants.{Settled, Awaits}
-use Rattle.course.specs.declared.Plan.{Plan}
-use Rattle.settle.specs.declared.Verdict.{Verdict}
-use Rattle.settle.specs.declared.Verdict.the-variants.{Passed, Failed, Missing}
-use Rattle.settle.specs.declared.Answered.{Answered}
-use Rattle.settle.specs.declared.Happened.{Happened}
-use Rattle.course.specs.Course.{courseJob}
-use Rattle.settle.specs.Settle.{jobFits, matches, endsBy, judgedOf, awaitedOf, courseOf, settleOf}
-use Rattle.course.specs.Course.{jobNumber}
-use Rattle.settle.proofs.Settles.{no-influence, settle-all}
+use Rattle.plans.specs.declared.Note.{Note}
+use Rattle.plans.specs.declared.Job.{Job}
+use Rattle.plans.specs.declared.Job.the-variants.{Nothing}
+use Rattle.plans.specs.declared.Ending.{Ending}
+use Rattle.plans.specs.declared.Ending.the-variants.{Settled, Awaits}
+use Rattle.plans.specs.declared.Plan.{Plan}
+use Rattle.verdicts.specs.declared.Verdict.{Verdict}
+use Rattle.verdicts.specs.declared.Verdict.the-variants.{Passed, Failed, Missing}
+use Rattle.verdicts.specs.declared.Answered.{Answered}
+use Rattle.verdicts.specs.declared.Happened.{Happened}
+use Rattle.plans.specs.Plans.{endingJob}
+use Rattle.verdicts.specs.Verdicts.{jobFits, matches, endsBy, judgedOf, awaitedOf, endingOf, decidedOf}
+use Rattle.plans.specs.Plans.{jobNumber}
+use Rattle.verdicts.proofs.Decisions.{no-influence, decided-all}
 use Rattle.outcome.specs.Outcome.{otherEvent}
 use Rattle.reply.specs.Reply.{room}
 use Rattle.token.specs.declared.state.Token.{Token}
@@ -39,7 +39,7 @@ use Rattle.token.specs.Step.{Stepped, happenedOf, nextOf, endedBy, stepOf}
 
 -- ---- a refusal leaves the token as it was
 
-pub refused-same : (t : Token) (w : Refusal) (p : Point) (k : Key) → afterOf t (Refused w) p k ≡ t
+pub refused-same : (t : Token) (w : Refusal) (p : Certificate) (k : Key) → afterOf t (Refused w) p k ≡ t
 unfolding afterOf
 refused-same t w p k = refl
 
@@ -53,17 +53,17 @@ step-refused t s note r first second size w e = go (ltb size room)
 
     go : (b : Bool) → cond {A = Stepped} b (record { token = t; bytes = [] }) (endedBy t h first size) .token ≡ t
     go true = refl
-    go false = ap (λ (x : Event). afterOf t x (h .point) (h .key)) e
+    go false = ap (λ (x : Event). afterOf t x (h .certificate) (h .key)) e
 
 -- ---- "where none, the result has no influence": on token, length and every byte
 
-unasked : (p : Plan) (r : Answered) (a : ℕ) (s : List ℕ) → courseJob (p .course) ≡ Nothing → settleOf p r a s .answer ≡ 0
+unasked : (p : Plan) (r : Answered) (a : ℕ) (s : List ℕ) → endingJob (p .ending) ≡ Nothing → decidedOf p r a s .answer ≡ 0
 unfolding endsBy
 unasked p r a s e =
-    settle-all (λ (h : Happened). h .answer ≡ 0) p r a s (λ x i. refl) (λ j x y i. refl)
-    (λ j x y i f n. true-false (sym f ∙ ap (λ (k : Job). jobFits k a (length s)) (sym (ap courseJob i) ∙ e)))
+    decided-all (λ (h : Happened). h .answer ≡ 0) p r a s (λ x i. refl) (λ j x y i. refl)
+    (λ j x y i f n. true-false (sym f ∙ ap (λ (k : Job). jobFits k a (length s)) (sym (ap endingJob i) ∙ e)))
 
-pub no-job-no-influence : (t : Token) (s : List ℕ) (note : Note) (r q : Answered) (first second f g : List ℕ) (size : ℕ) → courseJob (planOf t s note .course) ≡ Nothing
+pub no-job-no-influence : (t : Token) (s : List ℕ) (note : Note) (r q : Answered) (first second f g : List ℕ) (size : ℕ) → endingJob (planOf t s note .ending) ≡ Nothing
     → stepOf t s note r first second size ≡ stepOf t s note q f g size
 unfolding stepOf
 no-job-no-influence t s note r q first second f g size e =
@@ -91,7 +91,7 @@ isPassed Missing = false
 abbrev pub isGood : Job → Answered → Key → ℕ → List ℕ → Bool
 isGood j r k a s = (eqb (jobNumber j) (jobNumber (r .job)) && jobFits j a (length s)) && (isPassed (r .verdict) && matches j k s)
 
-module _ (p : Plan) (r : Answered) (j : Job) (x y : Event) (a : ℕ) (s : List ℕ) (e : p .course ≡ Awaits j x y) where
+module _ (p : Plan) (r : Answered) (j : Job) (x y : Event) (a : ℕ) (s : List ℕ) (e : p .ending ≡ Awaits j x y) where
   judged : (v : Verdict) → isPassed v && matches j (p .key) s ≡ false → judgedOf p v j x y a s ≡ endsBy p y
   unfolding judgedOf
   judged (Passed n) f = rw f
@@ -99,9 +99,9 @@ module _ (p : Plan) (r : Answered) (j : Job) (x y : Event) (a : ℕ) (s : List �
   judged Missing f = refl
 
   -- a result that is not good takes the other event
-  pub settle-bad : isGood j r (p .key) a s ≡ false → settleOf p r a s ≡ endsBy p y
-  unfolding courseOf awaitedOf
-  settle-bad f = ap (λ (c : Course). courseOf c p r a s) e ∙ go (eqb (jobNumber j) (jobNumber (r .job)) && jobFits j a (length s)) f
+  pub decided-bad : isGood j r (p .key) a s ≡ false → decidedOf p r a s ≡ endsBy p y
+  unfolding endingOf awaitedOf
+  decided-bad f = ap (λ (c : Ending). endingOf c p r a s) e ∙ go (eqb (jobNumber j) (jobNumber (r .job)) && jobFits j a (length s)) f
     where
       go : (b : Bool) → b && (isPassed (r .verdict) && matches j (p .key) s) ≡ false → cond b (judgedOf p (r .verdict) j x y a s) (endsBy p y) ≡ endsBy p y
       go true g = judged (r .verdict) g
@@ -111,22 +111,22 @@ module _ (t : Token) where
   -- "A missing verdict is never a good one": no session opens, no step passes, no certificate is accepted, no terminal proven, no
   -- chip authenticated and no PIN changed but by a result that is good for the job that was wanted
   pub earned : (s : List ℕ) (note : Note) (r : Answered) (first second : List ℕ) → wantsVerdict (happenedOf t s note r first second .event) ≡ true
-      → isGood (courseJob (planOf t s note .course)) r (planOf t s note .key) (length first) second ≡ true
-  unfolding endsBy courseOf
-  earned s note r first second e = go (planOf t s note .course) refl (plan-modest t s note)
+      → isGood (endingJob (planOf t s note .ending)) r (planOf t s note .key) (length first) second ≡ true
+  unfolding endsBy endingOf
+  earned s note r first second e = go (planOf t s note .ending) refl (plan-modest t s note)
     where
       p : Plan
       p = planOf t s note
 
-      go : (c : Course) → p .course ≡ c → wantsVerdict (without c) ≡ false → isGood (courseJob c) r (p .key) (length first) second ≡ true
-      go (Settled x) q m = true-false (sym (sym (ap (λ (c : Course). wantsVerdict (courseOf c p r (length first) second .event)) q ∙ m) ∙ e))
+      go : (c : Ending) → p .ending ≡ c → wantsVerdict (without c) ≡ false → isGood (endingJob c) r (p .key) (length first) second ≡ true
+      go (Settled x) q m = true-false (sym (sym (ap (λ (c : Ending). wantsVerdict (endingOf c p r (length first) second .event)) q ∙ m) ∙ e))
       go (Awaits j x y) q m = test (isGood j r (p .key) (length first) second) refl
         where
           test : (b : Bool) → isGood j r (p .key) (length first) second ≡ b → isGood j r (p .key) (length first) second ≡ true
           test true f = f
-          test false f = true-false (sym (sym (ap (λ (h : Happened). wantsVerdict (h .event)) (settle-bad p r j x y (length first) second q f) ∙ m) ∙ e))
+          test false f = true-false (sym (sym (ap (λ (h : Happened). wantsVerdict (h .event)) (decided-bad p r j x y (length first) second q f) ∙ m) ∙ e))
 
 -- and the event that the fourth step of a PIN's run comes to otherwise leaves the counter one lower
-pub trial-paid : (t : Token) (c : Choice) (p : Point) (k : Key) → isPin (passwordOf c) ≡ true → afterOf t (otherEvent c Confirm (t .pin)) p k .pin ≡ t .pin - 1
+pub trial-paid : (t : Token) (c : Choice) (p : Certificate) (k : Key) → isPin (passwordOf c) ≡ true → afterOf t (otherEvent c Confirm (t .pin)) p k .pin ≡ t .pin - 1
 unfolding afterOf trialLost
 trial-paid t c p k e = rw e

@@ -11,12 +11,12 @@ use Rattle.names.specs.Names.{sameName, nameFits}
 use Rattle.days.specs.Days.{dayFits, before, later}
 use Rattle.rights.specs.Rights.{rightsFit, roleOf}
 use Rattle.roles.specs.Roles.{isCvca, isDv, isOfficial}
-use Rattle.points.specs.Points.{noPoint, pointFits, withKey}
+use Rattle.certificate.specs.Certificate.{noCertificate, certificateFits, withKey}
 use Rattle.keys.specs.Keys.{noKey, keyFits, keyStands}
 use Rattle.names.proofs.Kept.{same-turned}
 use Rattle.days.specs.declared.Day.{Day}
 use Rattle.keys.specs.declared.Key.{Key}
-use Rattle.points.specs.declared.Point.{Point}
+use Rattle.certificate.specs.declared.Certificate.{Certificate}
 use Rattle.rights.specs.declared.Rights.{Rights}
 use Rattle.roles.specs.declared.Role.the-variants.{Cvca, Terminal}
 use Rattle.rights.specs.declared.Granted.{Granted}
@@ -28,8 +28,8 @@ use Rattle.run.specs.declared.Step.the-variants.{Nonce}
 use Rattle.run.specs.Run.{passwordOf, rightsNamed, isPin, isCan, nextStep, tries}
 use Rattle.event.specs.declared.Issuer.{Issuer}
 use Rattle.event.specs.declared.Event.{Event}
-use Rattle.course.specs.declared.Note.{Note}
-use Rattle.settle.specs.declared.Answered.{Answered}
+use Rattle.plans.specs.declared.Note.{Note}
+use Rattle.verdicts.specs.declared.Answered.{Answered}
 use Rattle.trust.specs.Trust.{trustPointFits, pointsFit, knows, linked}
 use Rattle.trust.specs.declared.Points.{Points}
 use Rattle.fields.specs.declared.asked.Ask.{Ask}
@@ -51,7 +51,7 @@ use Rattle.session.specs.declared.Session.{Session}
 use Rattle.standing.proofs.Stages.{challenged-is, Challengeable, when-announced, when-challenged, challengeable, Choosable, when-proven, when-chosen, choosable}
 use Rattle.standing.specs.Standing.{openedByPin, openedByCan, hasRights, reachesDv, reachesTerminal, hasDv, hasTerminal, noChain, fromAnnounced, unproven}
 use Rattle.session.specs.Session.{bareSession, atStage, announcedWith, chainedTo}
-use Rattle.bounds.specs.Bounds.{grantedFits, trustedFits, dvFits, terminalFits, reachFits, chainFits, runFits, stageFits, groundFits, contextFits}
+use Rattle.session_limits.specs.SessionLimits.{grantedFits, trustedFits, dvFits, terminalFits, reachFits, chainFits, runFits, stageFits, groundFits, contextFits}
 use Rattle.token.specs.declared.state.Token.{Token}
 use Rattle.status.specs.declared.Intake.the-variants.{Accepted, Unfit}
 use Rattle.token.specs.declared.state.Personalised.{Personalised}
@@ -144,16 +144,16 @@ later-in : (a b : Day) → dayFits a ≡ true → dayFits b ≡ true → dayFits
 unfolding later
 later-in a b e f = of-both (λ (d : Day). dayFits d ≡ true) (ltb (a .0) (b .0)) f e
 
-record InPoint (p : Point) : Type 0 where
+record InCertificate (p : Certificate) : Type 0 where
   pub rights : rightsFit (p .rights) ≡ true
   pub first : dayFits (p .first) ≡ true
 
-point-of : (p : Point) → pointFits p ≡ true → InPoint p
-unfolding pointFits
-point-of p h = let k = and-5 (nameFits (p .name)) (rightsFit (p .rights)) (dayFits (p .first)) (dayFits (p .last)) (not (before (p .last) (p .first))) h in record { rights = k .1; first = k .2 }
+certificate-of : (p : Certificate) → certificateFits p ≡ true → InCertificate p
+unfolding certificateFits
+certificate-of p h = let k = and-5 (nameFits (p .name)) (rightsFit (p .rights)) (dayFits (p .first)) (dayFits (p .last)) (not (before (p .last) (p .first))) h in record { rights = k .1; first = k .2 }
 
 -- each held trust point is one
-held-fits : (h : Points) {p : Point} → pointsFit h ≡ true → Holds h p → trustPointFits p ≡ true
+held-fits : (h : Points) {p : Certificate} → pointsFit h ≡ true → Holds h p → trustPointFits p ≡ true
 unfolding pointsFit
 held-fits h e as-newest = and-l (trustPointFits (h .newest)) (not (h .two) || (trustPointFits (h .previous) && not (sameName (h .previous .name) (h .newest .name)))) e
 held-fits h e (as-previous two) =
@@ -161,14 +161,14 @@ held-fits h e (as-previous two) =
     (or-then (h .two) (trustPointFits (h .previous) && not (sameName (h .previous .name) (h .newest .name)))
     (and-r (trustPointFits (h .newest)) (not (h .two) || (trustPointFits (h .previous) && not (sameName (h .previous .name) (h .newest .name)))) e) two)
 
-held-trusted : (p : Point) → trustPointFits p ≡ true → trustedFits (p .rights) ≡ true
+held-trusted : (p : Certificate) → trustPointFits p ≡ true → trustedFits (p .rights) ≡ true
 unfolding trustPointFits trustedFits
 held-trusted p h =
-    both (rightsFit (p .rights)) (isCvca (roleOf (p .rights))) (point-of p (and-l (pointFits p) (isCvca (roleOf (p .rights))) h) .rights) (and-r (pointFits p) (isCvca (roleOf (p .rights))) h)
+    both (rightsFit (p .rights)) (isCvca (roleOf (p .rights))) (certificate-of p (and-l (certificateFits p) (isCvca (roleOf (p .rights))) h) .rights) (and-r (certificateFits p) (isCvca (roleOf (p .rights))) h)
 
 -- a link among the trust points
-linked-in : (h : Points) (p : Point) (n : ℕ) → pointsFit h ≡ true → pointFits p ≡ true → roleOf (p .rights) ≡ Cvca → knows h (p .name) ≡ false → pointsFit (linked h (withKey p n)) ≡ true
-unfolding pointsFit trustPointFits linked withKey pointFits knows
+linked-in : (h : Points) (p : Certificate) (n : ℕ) → pointsFit h ≡ true → certificateFits p ≡ true → roleOf (p .rights) ≡ Cvca → knows h (p .name) ≡ false → pointsFit (linked h (withKey p n)) ≡ true
+unfolding pointsFit trustPointFits linked withKey certificateFits knows
 linked-in h p n e f g k =
     let a = and-l (trustPointFits (h .newest)) (not (h .two) || (trustPointFits (h .previous) && not (sameName (h .previous .name) (h .newest .name)))) e in
     let d : sameName (h .newest .name) (p .name) ≡ false = same-turned (h .newest .name) (p .name) ∙ or-l (sameName (p .name) (h .newest .name)) (h .two && sameName (p .name) (h .previous .name)) k in
@@ -176,11 +176,11 @@ linked-in h p n e f g k =
 
 -- ---- a chain
 
-chain-dv : (trusted : Rights) (p n : Point) → trustedFits trusted ≡ true → dvFits p ≡ true → chainFits (record { reach = ToDv trusted; dv = p; terminal = n }) ≡ true
+chain-dv : (trusted : Rights) (p n : Certificate) → trustedFits trusted ≡ true → dvFits p ≡ true → chainFits (record { reach = ToDv trusted; dv = p; terminal = n }) ≡ true
 unfolding chainFits
 chain-dv trusted p n e f = rw (e, f)
 
-chain-terminal : (c : Chain) (p : Point) → chainFits c ≡ true → hasDv c ≡ true → terminalFits p ≡ true → chainFits (record { reach = extended (c .reach); dv = c .dv; terminal = p }) ≡ true
+chain-terminal : (c : Chain) (p : Certificate) → chainFits c ≡ true → hasDv c ≡ true → terminalFits p ≡ true → chainFits (record { reach = extended (c .reach); dv = c .dv; terminal = p }) ≡ true
 unfolding chainFits
 chain-terminal c p e h f = go (c .reach) e h
   where
@@ -226,7 +226,7 @@ selects (to-dv e) = e
 
 -- what a command names is within its limits
 abbrev pub Sound : Asked → Type 0
-Sound a = (m : Kind) (ch : Bool) (x : Ask) → a .request ≡ Asks m ch x → Named x (a .name) (a .point) (a .key)
+Sound a = (m : Kind) (ch : Bool) (x : Ask) → a .request ≡ Asks m ch x → Named x (a .name) (a .certificate) (a .key)
 
 -- ---- every event keeps the limits
 
@@ -295,7 +295,7 @@ module _ (t : Token) (l : InLimits t) where
       bare (By (passwordOf c)) (rightsNamed c) Idle (triesAfter c (t .pin)) (of-both (λ (k : ℕ). leb k tries ≡ true) (isPin (passwordOf c)) refl (l .pin))
       (bare-in (By (passwordOf c)) (rightsNamed c) Idle (triesAfter c (t .pin)) g refl (names-opener c) refl)
 
-  module _ (p : Point) (n : ℕ) (f : pointFits p ≡ true) (c : certifying t ≡ true) where
+  module _ (p : Certificate) (n : ℕ) (f : certificateFits p ≡ true) (c : certifying t ≡ true) where
     confirmed : hasRights (contextOf t .confirmed) ≡ true
     confirmed = and-l (hasRights (contextOf t .confirmed)) (unproven (contextOf t .stage)) c
 
@@ -305,36 +305,36 @@ module _ (t : Token) (l : InLimits t) where
         record {
           pin = l .pin;
           puk = l .puk;
-          today = later-in (t .today) (p .first) (l .today) (point-of p f .first);
+          today = later-in (t .today) (p .first) (l .today) (certificate-of p f .first);
           points = linked-in (t .points) p n (l .points) f r k;
           context = in-context (chained-in (t .session) (t .pin) noChain refl refl context-in);
           dv = refl;
           chosen = refl;
         }
 
-    dv-in : {h : Point} → isDv (roleOf (p .rights)) ≡ true → knows (t .points) (p .name) ≡ false → Holds (t .points) h → InLimits (dvTaken t (withKey p n) (h .rights))
-    unfolding dvTaken dvFits withKey pointFits
+    dv-in : {h : Certificate} → isDv (roleOf (p .rights)) ≡ true → knows (t .points) (p .name) ≡ false → Holds (t .points) h → InLimits (dvTaken t (withKey p n) (h .rights))
+    unfolding dvTaken dvFits withKey certificateFits
     dv-in {h} r k q =
         record {
           pin = l .pin;
           puk = l .puk;
-          today = later-in (t .today) (p .first) (l .today) (point-of p f .first);
+          today = later-in (t .today) (p .first) (l .today) (certificate-of p f .first);
           points = l .points;
           context =
               in-context
-              (chained-in (t .session) (t .pin) (record { reach = ToDv (h .rights); dv = withKey p n; terminal = noPoint })
-              (chain-dv (h .rights) (withKey p n) noPoint (held-trusted h (held-fits (t .points) (l .points) q)) (rw (f, r))) confirmed context-in);
+              (chained-in (t .session) (t .pin) (record { reach = ToDv (h .rights); dv = withKey p n; terminal = noCertificate })
+              (chain-dv (h .rights) (withKey p n) noCertificate (held-trusted h (held-fits (t .points) (l .points) q)) (rw (f, r))) confirmed context-in);
           dv = rw k;
           chosen = refl;
         }
 
     terminal-in : roleOf (p .rights) ≡ Terminal → hasDv (chainOf t) ≡ true → InLimits (terminalTaken t (withKey p n))
-    unfolding terminalTaken terminalFits withKey pointFits
+    unfolding terminalTaken terminalFits withKey certificateFits
     terminal-in r h =
         record {
           pin = l .pin;
           puk = l .puk;
-          today = of-both (λ (d : Day). dayFits d ≡ true) (isOfficial (roleOf (chainOf t .dv .rights))) (later-in (t .today) (p .first) (l .today) (point-of p f .first)) (l .today);
+          today = of-both (λ (d : Day). dayFits d ≡ true) (isOfficial (roleOf (chainOf t .dv .rights))) (later-in (t .today) (p .first) (l .today) (certificate-of p f .first)) (l .today);
           points = l .points;
           context =
               in-context
@@ -366,7 +366,7 @@ module _ (t : Token) (l : InLimits t) where
   from-proof when-proven = refl
   from-proof when-chosen = refl
 
-  pub keep-in : {a : Asked} {e : Event} {p : Point} {k : Key} → Sound a → Fits t a e p k → InLimits (afterOf t e p k)
+  pub keep-in : {a : Asked} {e : Event} {p : Certificate} {k : Key} → Sound a → Fits t a e p k → InLimits (afterOf t e p k)
   unfolding afterOf runClosed
   keep-in s is-refused = l
   keep-in s is-lost = lost

@@ -11,13 +11,13 @@ use Rattle.laws.proofs.Bools.{true-false, and-r, or-then}
 use Rattle.names.specs.Names.{sameName}
 use Rattle.rights.specs.Rights.{roleOf}
 use Rattle.roles.specs.Roles.{isDv}
-use Rattle.points.specs.Points.{noPoint, withKey}
+use Rattle.certificate.specs.Certificate.{noCertificate, withKey}
 use Rattle.keys.specs.Keys.{noKey}
 use Rattle.names.proofs.Kept.{same-for}
 use Rattle.names.specs.declared.Name.{Name}
 use Rattle.keys.specs.declared.Key.{Key}
 use Rattle.days.specs.declared.Day.{Day}
-use Rattle.points.specs.declared.Point.{Point}
+use Rattle.certificate.specs.declared.Certificate.{Certificate}
 use Rattle.rights.specs.declared.Rights.{Rights}
 use Rattle.roles.specs.declared.Role.{Role}
 use Rattle.roles.specs.declared.Role.the-variants.{Cvca, OfficialDv, OtherDv, Terminal}
@@ -58,12 +58,12 @@ confirmedBy Nobody g = none
 confirmedBy (By w) g = naming w g
 
 -- the DV, if there is one, is the record's latest
-abbrev pub Below : Reach → Point → Option Dv → Type 0
+abbrev pub Below : Reach → Certificate → Option Dv → Type 0
 Below Empty d o = Unit {0}
 Below (ToDv trusted) d o = o ≡ some (record { trusted = some trusted; name = d .name; rights = d .rights })
 Below (ToTerminal trusted) d o = o ≡ some (record { trusted = some trusted; name = d .name; rights = d .rights })
 
-abbrev pub chainRightsOf : Reach → Point → Point → Option ChainRights
+abbrev pub chainRightsOf : Reach → Certificate → Certificate → Option ChainRights
 chainRightsOf Empty d u = none
 chainRightsOf (ToDv trusted) d u = none
 chainRightsOf (ToTerminal trusted) d u = some (record { trusted = trusted; dv = d .rights; terminal = u .rights })
@@ -104,7 +104,7 @@ differ ps f two =
     (or-then (ps .two) (trustPointFits (ps .previous) && not (sameName (ps .previous .name) (ps .newest .name)))
     (and-r (trustPointFits (ps .newest)) (not (ps .two) || (trustPointFits (ps .previous) && not (sameName (ps .previous .name) (ps .newest .name)))) f) two))
 
-found : (ps : Points) {p : Point} (n : Name) → pointsFit ps ≡ true → Holds ps p → sameName n (p .name) ≡ true → rightsIn (trustPoints ps) n ≡ some (p .rights)
+found : (ps : Points) {p : Certificate} (n : Name) → pointsFit ps ≡ true → Holds ps p → sameName n (p .name) ≡ true → rightsIn (trustPoints ps) n ≡ some (p .rights)
 found ps n f as-newest e = rw e
 found ps n f (as-previous two) e = rw (same-for n (ps .previous .name) (ps .newest .name) e ∙ differ ps f two, two, e)
 
@@ -188,7 +188,7 @@ module _ {h : Held} {ps : Points} {r : List Fact} where
     closed o s i =
         record { points = i .points; rights = no-rights o ∙ sym (few (named (lastChoice r)) s (i .run .1)); dv = tt; chain = sym (i .run .2); ann = i .ann; chal = i .chal; prov = i .prov; auth = i .auth; run = tt }
 
-  module _ (c : Context) (n : Name) (p : Point) (i : Inv h ps c r) where
+  module _ (c : Context) (n : Name) (p : Certificate) (i : Inv h ps c r) where
     -- a chain, where the certificate tells of points, DV and terminal
     accepted : (qs : Points) (d : Chain) → trustPoints qs ≡ held h (Accepted n p ∷ r) → Below (d .reach) (d .dv) (lastDv h (Accepted n p ∷ r)) → chainRightsOf (d .reach) (d .dv) (d .terminal) ≡ ruleB h (Accepted n p ∷ r)
         → Inv h qs (record { opened = c .opened; confirmed = c .confirmed; chain = d; stage = Idle; key = noKey }) (Accepted n p ∷ r)
@@ -208,8 +208,8 @@ module _ {h : Held} {ps : Points} {r : List Fact} where
     dv-at : (o : Role) → roleOf (p .rights) ≡ o → lastDv h (Accepted n p ∷ r) ≡ orElse (dvBy (trustPoints ps) n p o) (lastDv h r)
     dv-at o e = ap (λ (x : Role). orElse (dvBy (held h r) n p x) (lastDv h r)) e ∙ ap (λ (x : Held). orElse (dvBy x n p o) (lastDv h r)) (sym (i .points))
 
-    deputed-now : {q : Point} (k : ℕ) → pointsFit ps ≡ true → isDv (roleOf (p .rights)) ≡ true → Holds ps q → sameName n (q .name) ≡ true
-        → Inv h ps (record { opened = c .opened; confirmed = c .confirmed; chain = record { reach = ToDv (q .rights); dv = withKey p k; terminal = noPoint }; stage = Idle; key = noKey }) (Accepted n p ∷ r)
+    deputed-now : {q : Certificate} (k : ℕ) → pointsFit ps ≡ true → isDv (roleOf (p .rights)) ≡ true → Holds ps q → sameName n (q .name) ≡ true
+        → Inv h ps (record { opened = c .opened; confirmed = c .confirmed; chain = record { reach = ToDv (q .rights); dv = withKey p k; terminal = noCertificate }; stage = Idle; key = noKey }) (Accepted n p ∷ r)
     unfolding withKey
     deputed-now {q} k f e g s = go (roleOf (p .rights)) refl e
       where
@@ -217,7 +217,7 @@ module _ {h : Held} {ps : Points} {r : List Fact} where
         at-dv x = some (record { trusted = x; name = p .name; rights = p .rights })
 
         go : (o : Role) → roleOf (p .rights) ≡ o → isDv o ≡ true
-            → Inv h ps (record { opened = c .opened; confirmed = c .confirmed; chain = record { reach = ToDv (q .rights); dv = withKey p k; terminal = noPoint }; stage = Idle; key = noKey }) (Accepted n p ∷ r)
+            → Inv h ps (record { opened = c .opened; confirmed = c .confirmed; chain = record { reach = ToDv (q .rights); dv = withKey p k; terminal = noCertificate }; stage = Idle; key = noKey }) (Accepted n p ∷ r)
         go Cvca d z = true-false (sym z)
         go OfficialDv d z = accepted ps _ (sym (held-by OfficialDv d)) (dv-at OfficialDv d ∙ ap at-dv (found ps n f g s)) (none-under OfficialDv d refl)
         go OtherDv d z = accepted ps _ (sym (held-by OtherDv d)) (dv-at OtherDv d ∙ ap at-dv (found ps n f g s)) (none-under OtherDv d refl)
@@ -282,7 +282,7 @@ module _ {h : Held} {ps : Points} {r : List Fact} where
 abbrev pub Agrees : Held → Token → List Fact → Type 0
 Agrees h t r = Inv h (t .points) (contextOf t) r
 
-pub keep : {h : Held} (t : Token) {r : List Fact} {a : Asked} {e : Event} {p : Point} {k : Key} → InLimits t → Fits t a e p k → Agrees h t r → Agrees h (afterOf t e p k) (factAt a e ∷ r)
+pub keep : {h : Held} (t : Token) {r : List Fact} {a : Asked} {e : Event} {p : Certificate} {k : Key} → InLimits t → Fits t a e p k → Agrees h t r → Agrees h (afterOf t e p k) (factAt a e ∷ r)
 unfolding afterOf resetOf choiceTaken staged stepPassed opened runClosed trialLost issuerSelected linkTaken dvTaken terminalTaken announced unblocked unblockedByPuk
 keep t l is-refused i = quiet i
 keep t l is-lost i = lost i
@@ -292,9 +292,9 @@ keep t l (is-opened {c = c} {s = s} q e f) i = open-now (contextOf t) c s f (kno
 keep t l (is-run-closed {c = c} {s = s} q e) i = closed (contextOf t) c (contextOf t .opened) s (known (contextOf t) e i)
 keep t l (is-trial-lost {c = c} {s = s} q e) i = closed (contextOf t) c (contextOf t .opened) s (known (contextOf t) e i)
 keep t l (is-selected q e) i = quiet i
-keep t {a = a} l (is-link-taken n q c r k) i = linked-now (contextOf t) (a .name) (a .point) i n r
-keep t {a = a} l (is-dv-taken n q c r k h e) i = deputed-now (contextOf t) (a .name) (a .point) i n (l .points) r h e
-keep t {a = a} l (is-terminal-taken n q c r h e) i = completed-now (contextOf t) (a .name) (a .point) i n r h e
+keep t {a = a} l (is-link-taken n q c r k) i = linked-now (contextOf t) (a .name) (a .certificate) i n r
+keep t {a = a} l (is-dv-taken n q c r k h e) i = deputed-now (contextOf t) (a .name) (a .certificate) i n (l .points) r h e
+keep t {a = a} l (is-terminal-taken n q c r h e) i = completed-now (contextOf t) (a .name) (a .certificate) i n r h e
 keep t l (is-announced q e) i = announced-now (contextOf t) _ i
 keep t l (is-challenged q e) i = challenged-now (contextOf t) (challengeable (contextOf t .stage) e) (known (contextOf t) refl i)
 keep t l (is-proven q e) i = proved-now (contextOf t) (known (contextOf t) (challenged-is (contextOf t .stage) e) i)

@@ -10,7 +10,7 @@ use lib.ListN.{length}
 use Rattle.laws.proofs.Bools.{true-false, and-l, and-r, or-then}
 use Rattle.keys.specs.Keys.{keyStands}
 use Rattle.rights.specs.Rights.{hasRight, readsGroup}
-use Rattle.points.specs.declared.Point.{Point}
+use Rattle.certificate.specs.declared.Certificate.{Certificate}
 use Rattle.rights.specs.declared.Rights.{Rights}
 use Rattle.rights.specs.declared.Granted.{Granted}
 use Rattle.rights.specs.declared.Granted.the-variants.{These, NoRights}
@@ -28,13 +28,13 @@ use Rattle.event.specs.declared.Event.{Event}
 use Rattle.event.specs.declared.Event.the-variants.{ReadAllowed, Refused, Lost}
 use Rattle.event.specs.declared.Refusal.the-variants.{Moment}
 use Rattle.event.specs.declared.Loss.the-variants.{Broken}
-use Rattle.course.specs.declared.Guard.the-variants.{Passes, Drops}
+use Rattle.plans.specs.declared.Guard.the-variants.{Passes, Drops}
 use Rattle.event.specs.Event.{wordOf}
-use Rattle.course.specs.declared.Note.the-variants.{Protected}
-use Rattle.settle.specs.declared.Answered.{Answered}
-use Rattle.settle.specs.declared.Happened.{Happened}
-use Rattle.course.specs.Course.{settledBy}
-use Rattle.settle.specs.Settle.{endsBy, courseOf, settleOf}
+use Rattle.plans.specs.declared.Note.the-variants.{Protected}
+use Rattle.verdicts.specs.declared.Answered.{Answered}
+use Rattle.verdicts.specs.declared.Happened.{Happened}
+use Rattle.plans.specs.Plans.{settledBy}
+use Rattle.verdicts.specs.Verdicts.{endsBy, endingOf, decidedOf}
 use Rattle.order.specs.Order.{grounded}
 use Rattle.fields.specs.Given.{only}
 use Rattle.fields.specs.Asked.{askedOf, askedBy, asking, dataOf}
@@ -154,8 +154,8 @@ module _ (t : Token) (s : List ℕ) (n : ℕ) (l : inLimits t ≡ true) (q : ask
       go true = refl
       go false = refl
 
-settled-event : (e : Event) (r : Answered) (a : ℕ) (z : List ℕ) → settleOf (settledBy e) r a z .event ≡ e
-unfolding settledBy courseOf endsBy
+settled-event : (e : Event) (r : Answered) (a : ℕ) (z : List ℕ) → decidedOf (settledBy e) r a z .event ≡ e
+unfolding settledBy endingOf endsBy
 settled-event e r a z = refl
 
 read-word : (t : Token) (n : ℕ) (x : Exchange) → 1 ≤ n → n ≤ 21 → inLimits t ≡ true → ReadsNow n x
@@ -180,7 +180,7 @@ read-bare false m b = refl
 read-bytes : (t : Token) (n : ℕ) (x : Exchange) → 1 ≤ n → n ≤ 21 → inLimits t ≡ true → ReadsNow n x
     → stepOf t (x .command) (x .note) (x .result) (x .first) (x .second) (x .size) .bytes
     ≡ wordBytes (wordNumber (wordOf (readEvent (isOpen (contextOf t .opened)) (noRun (contextOf t .stage)) (readsGroup (authorization (contextOf t)) n))))
-unfolding stepOf settledBy courseOf endsBy
+unfolding stepOf settledBy endingOf endsBy
 read-bytes t n x lo hi l w =
     rw (le-ltb (x .size) room (w .roomy), w .protected, read-plan t (x .command) n l (read-asked n lo hi (x .command) (w .bytes)))
     (bare-reply _ (readEvent (isOpen (contextOf t .opened)) (noRun (contextOf t .stage)) (readsGroup (authorization (contextOf t)) n)) (x .size)
@@ -243,7 +243,7 @@ whole c pin x a =
 abbrev all : Reach → Rights → Rights → Granted → ℕ → Bool
 all x d u g k = hasRight k (trustedOf x) && hasRight k d && hasRight k u && hasRight k (confirmedOf g)
 
-rule-bits : (n : ℕ) (a : Bool) (o : Opened) (g : Granted) (x : Reach) (d u : Point) → (a ≡ true → (isOpen o ≡ true) × (hasRights g ≡ true) × (reachesTerminal x ≡ true))
+rule-bits : (n : ℕ) (a : Bool) (o : Opened) (g : Granted) (x : Reach) (d u : Certificate) → (a ≡ true → (isOpen o ≡ true) × (hasRights g ≡ true) × (reachesTerminal x ≡ true))
     → a && not (openedByCan o && not (all x (d .rights) (u .rights) g 4)) && all x (d .rights) (u .rights) g (7 + n) ≡ a && ruleE (confirmedBy o g) (chainRightsOf x d u) n
 rule-bits n false o g x d u w = refl
 rule-bits n true Nobody g x d u w = true-false (sym (w refl .0))

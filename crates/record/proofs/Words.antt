@@ -4,7 +4,7 @@ use mathlib.Core.Bool.{Bool, true, false, cond, _&&_}
 use mathlib.Core.Path.{_≡_, refl, ap, _∙_}
 use lib.Dec.{ltb}
 use Rattle.keys.specs.declared.Key.{Key}
-use Rattle.points.specs.declared.Point.{Point}
+use Rattle.certificate.specs.declared.Certificate.{Certificate}
 use Rattle.status.specs.declared.Word.{Word}
 use Rattle.status.specs.declared.Word.the-variants.{Done, Tries, NotPassed as W6300}
 use Rattle.run.specs.declared.Choice.{Choice}
@@ -32,9 +32,9 @@ factAt a (IsOpened c) = StepPassed
 factAt a RunClosed = Nothing
 factAt a (TrialLost n) = Nothing
 factAt a (IsSelected i) = Nothing
-factAt a LinkTaken = Accepted (a .name) (a .point)
-factAt a (DvTaken r) = Accepted (a .name) (a .point)
-factAt a TerminalTaken = Accepted (a .name) (a .point)
+factAt a LinkTaken = Accepted (a .name) (a .certificate)
+factAt a (DvTaken r) = Accepted (a .name) (a .certificate)
+factAt a TerminalTaken = Accepted (a .name) (a .certificate)
 factAt a IsAnnounced = Announced
 factAt a IsChallenged = Challenged
 factAt a IsProven = Proved
@@ -76,7 +76,7 @@ read : (a : Asked) (w : Word) {q : Request} (f : Fact) → a .request ≡ q → 
 read a w f e z = ap (λ (x : Request). factBy w (requestFact a x)) e ∙ z
 
 module _ (t : Token) (a : Asked) where
-  pub fact-of : {e : Event} {p : Point} {k : Key} → Fits t a e p k → factBy (wordOf e) (requestFact a (a .request)) ≡ factAt a e
+  pub fact-of : {e : Event} {p : Certificate} {k : Key} → Fits t a e p k → factBy (wordOf e) (requestFact a (a .request)) ≡ factAt a e
   unfolding wordOf
   fact-of (is-refused {w = w}) = refused-fact w _
   fact-of (is-lost {l = l}) = lost-fact l _

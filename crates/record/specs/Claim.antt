@@ -4,10 +4,10 @@ use mathlib.Core.Bool.{Bool, true}
 use mathlib.Core.Path.{_≡_}
 use mathlib.Core.List.{List, [], _∷_}
 use Rattle.days.specs.declared.Day.{Day}
-use Rattle.points.specs.declared.Point.{Point}
+use Rattle.certificate.specs.declared.Certificate.{Certificate}
 use Rattle.status.specs.declared.Word.{Word}
 use Rattle.status.specs.declared.Word.the-variants.{Done}
-use Rattle.course.specs.declared.Note.the-variants.{Protected}
+use Rattle.plans.specs.declared.Note.the-variants.{Protected}
 use Rattle.reply.specs.Reply.{room}
 use Rattle.trust.specs.declared.Points.{Points}
 use Rattle.token.specs.declared.state.Token.{Token}
@@ -23,7 +23,7 @@ abbrev pub begun : Points → Day → Token
 begun h d = madeOf h d .token
 
 -- the names and rights of the trust points of a personalisation
-abbrev pub trustPoint : Point → TrustPoint
+abbrev pub trustPoint : Certificate → TrustPoint
 trustPoint p = record { name = p .name; rights = p .rights }
 
 abbrev pub trustPoints : Points → Held

@@ -6,8 +6,8 @@ use mathlib.Core.List.{List, [], _∷_}
 use lib.Dec.{ltb}
 use Rattle.status.specs.declared.Word.{Word}
 use Rattle.status.specs.declared.Word.the-variants.{Outside}
-use Rattle.course.specs.declared.Note.{Note}
-use Rattle.settle.specs.declared.Answered.{Answered}
+use Rattle.plans.specs.declared.Note.{Note}
+use Rattle.verdicts.specs.declared.Answered.{Answered}
 use Rattle.event.specs.Event.{wordOf}
 use Rattle.reply.specs.Reply.{room}
 use Rattle.token.specs.declared.state.Token.{Token}

@@ -6,7 +6,7 @@ use mathlib.Core.Path.{_≡_}
 use mathlib.Core.List.{List, [], _∷_}
 use Rattle.names.specs.Names.{nameOf}
 use Rattle.rights.specs.declared.Rights.{Rights}
-use Rattle.points.specs.declared.Point.{Point}
+use Rattle.certificate.specs.declared.Certificate.{Certificate}
 use Rattle.run.specs.declared.Choice.{Choice}
 use Rattle.run.specs.declared.Choice.the-variants.{PinFor, CanFor}
 use Rattle.record.specs.Rule.{Fact, Taken, StepPassed, ChipPassed, Accepted, Announced, Challenged, Proved, ProofFailed, Lost, Held, readable}
@@ -14,19 +14,19 @@ use Rattle.record.specs.Claim.{trustPoint}
 use Rattle.record.specs.Worked.{root}
 
 -- a certificate by one letter of its name and by its rights; days and key numbers play no part
-abbrev pub stating : ℕ → ℕ → Point
+abbrev pub stating : ℕ → ℕ → Certificate
 stating letter rights = record { name = nameOf (letter ∷ []); rights = record { 0 = rights }; first = record { 0 = 0 }; last = record { 0 = 0 }; key = 0 }
 
-abbrev pub link : Point
+abbrev pub link : Certificate
 link = stating 0x41 0xFFFFFFFFFF
 
-abbrev pub nextLink : Point
+abbrev pub nextLink : Certificate
 nextLink = stating 0x42 0xFFFFFFFFFF
 
-abbrev pub dv : Point
+abbrev pub dv : Certificate
 dv = stating 0x43 0x800FFF0130
 
-abbrev pub terminal : Point
+abbrev pub terminal : Certificate
 terminal = stating 0x44 0x0000000110
 
 -- the choice names group 1 and bit 4, or group 1 alone

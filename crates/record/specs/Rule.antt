@@ -8,7 +8,7 @@ use lib.Dec.{eqb, leb}
 use Rattle.names.specs.Names.{sameName}
 use Rattle.rights.specs.Rights.{roleOf, hasRight, canAllowed}
 use Rattle.names.specs.declared.Name.{Name}
-use Rattle.points.specs.declared.Point.{Point}
+use Rattle.certificate.specs.declared.Certificate.{Certificate}
 use Rattle.rights.specs.declared.Rights.{Rights}
 use Rattle.rights.specs.declared.Granted.{Granted}
 use Rattle.rights.specs.declared.Granted.the-variants.{These, NoRights}
@@ -36,7 +36,7 @@ pub data Fact : Type 0 where
   Taken : Choice → Fact
   StepPassed ChipPassed : Fact
   -- a certificate accepted: its issuer's name, and what it states
-  Accepted : Name → Point → Fact
+  Accepted : Name → Certificate → Fact
   Announced Challenged Proved : Fact
   -- a proof that failed; a reset or a lost session; all else
   ProofFailed Lost Nothing : Fact
@@ -51,7 +51,7 @@ askFact a Bad = Nothing
 askFact a (Choose c) = Taken c
 askFact a (General x) = contentFact x
 askFact a Select = Nothing
-askFact a Verify = Accepted (a .name) (a .point)
+askFact a Verify = Accepted (a .name) (a .certificate)
 askFact a Announce = Announced
 askFact a Challenge = Challenged
 askFact a Prove = Proved
@@ -135,7 +135,7 @@ factsOf [] = []
 factsOf (x ∷ past) = factOf x ∷ factsOf past
 
 -- what an accepted certificate gives, by its issuer's name, what it states and its role; another fact gives this
-abbrev pub certified : {A : Type 0} → A → (Name → Point → Role → A) → Fact → A
+abbrev pub certified : {A : Type 0} → A → (Name → Certificate → Role → A) → Fact → A
 certified x by (Accepted n p) = by n p (roleOf (p .rights))
 certified x by (Taken c) = x
 certified x by StepPassed = x
@@ -175,7 +175,7 @@ pub record Held : Type 0 where
   pub two : Bool
 
 -- "a link becomes newest, newest becomes previous"
-abbrev pub linkedBy : Held → Point → Role → Held
+abbrev pub linkedBy : Held → Certificate → Role → Held
 linkedBy h p o = cond (isCvca o) (record { newest = record { name = p .name; rights = p .rights }; previous = h .newest; two = true }) h
 
 abbrev pub heldAfter : Held → Fact → Held
@@ -244,7 +244,7 @@ pub record ChainRights : Type 0 where
   pub dv : Rights
   pub terminal : Rights
 
-abbrev pub dvBy : Held → Name → Point → Role → Option Dv
+abbrev pub dvBy : Held → Name → Certificate → Role → Option Dv
 dvBy h n p o = cond (isDv o) (some (record { trusted = rightsIn h n; name = p .name; rights = p .rights })) none
 
 abbrev pub dvIn : Held → Fact → Option Dv
@@ -258,11 +258,11 @@ chainRights none d t = none
 chainRights (some x) d t = some (record { trusted = x; dv = d; terminal = t })
 
 -- a terminal's certificate, where its issuer's name is the DV's
-abbrev pub completing : Option Dv → Name → Point → Option ChainRights
+abbrev pub completing : Option Dv → Name → Certificate → Option ChainRights
 completing none n p = none
 completing (some d) n p = cond (sameName n (d .name)) (chainRights (d .trusted) (d .rights) (p .rights)) none
 
-abbrev pub under : Option Dv → Name → Point → Role → Option ChainRights
+abbrev pub under : Option Dv → Name → Certificate → Role → Option ChainRights
 under d n p o = cond (isTerminal o) (completing d n p) none
 
 abbrev pub terminalIn : Option Dv → Fact → Option ChainRights

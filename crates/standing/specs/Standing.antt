@@ -2,7 +2,7 @@
 use Prim.Native.Nat.{ℕ}
 use mathlib.Core.Bool.{Bool, true, false, _&&_}
 use lib.Dec.{leb, eqb}
-use Rattle.points.specs.Points.{noPoint}
+use Rattle.certificate.specs.Certificate.{noCertificate}
 use Rattle.rights.specs.declared.Granted.{Granted}
 use Rattle.rights.specs.declared.Granted.the-variants.{These, NoRights}
 use Rattle.run.specs.Run.{isPin, isCan, isPuk}
@@ -61,7 +61,7 @@ isSelected NoIssuer = false
 isSelected (Of i) = true
 
 unfoldable pub noChain : Chain
-noChain = record { reach = Empty; dv = noPoint; terminal = noPoint }
+noChain = record { reach = Empty; dv = noCertificate; terminal = noCertificate }
 
 -- ---- the stage
 

@@ -1,8 +1,8 @@
 // What stands in a session: who opened it, its chain, the selection, the stage; and the questions about each.
 ghost use mathlib.Core.Path.{_≡_};
 ghost use Rattle.standing.specs.Standing.{isOpen, openedByPin, openedByCan, openedByPuk, hasRights, hasDv, hasTerminal, isSelected, noChain, rank};
+use certificate::Certificate;
 use event::Issuer;
-use points::Point;
 use rights::Granted;
 use rights::Rights;
 use run::Choice;
@@ -24,8 +24,8 @@ pub enum Reach {
 
 pub struct Chain {
     pub reach: Reach,
-    pub dv: Point,
-    pub terminal: Point,
+    pub dv: Certificate,
+    pub terminal: Certificate,
 }
 
 pub enum Selected {
@@ -86,8 +86,8 @@ impl Chain {
     pub fn none() -> Self
         ensures { λ r. ⌜ r ≡ noChain ⌝ }
     {
-        let dv = Point::none();
-        let terminal = Point::none();
+        let dv = Certificate::none();
+        let terminal = Certificate::none();
         Chain {
             reach: Reach::Empty,
             dv: dv,

@@ -3,10 +3,10 @@ use borrow.Author.Needs.{needs}
 use Prim.Native.Nat.{ℕ, _-_}
 use mathlib.Core.Path.{_≡_, sym, ap, _∙_}
 use Rattle.days.specs.Days.{later}
-use Rattle.points.specs.Points.{noPoint, todayAfter}
+use Rattle.certificate.specs.Certificate.{noCertificate, todayAfter}
 use Rattle.days.specs.declared.Day.{Day}
 use Rattle.keys.specs.declared.Key.{Key}
-use Rattle.points.specs.declared.Point.{Point}
+use Rattle.certificate.specs.declared.Certificate.{Certificate}
 use Rattle.rights.specs.declared.Rights.{Rights}
 use Rattle.rights.specs.declared.Granted.{Granted}
 use Rattle.rights.specs.declared.Granted.the-variants.{NoRights}
@@ -63,17 +63,17 @@ module _ (t : Token) where
   unfolding issuerSelected
   selected-is i z e = rw e
 
-  pub link-is : (p : Point) (h : Points) (z : Session) (d : Day) → h ≡ linked (t .points) p → z ≡ chainedTo (t .session) noChain → d ≡ later (t .today) (p .first)
+  pub link-is : (p : Certificate) (h : Points) (z : Session) (d : Day) → h ≡ linked (t .points) p → z ≡ chainedTo (t .session) noChain → d ≡ later (t .today) (p .first)
       → withToday (withSession (withPoints t h) z) d ≡ linkTaken t p
   unfolding linkTaken
   link-is p h z d e f g = rw (f, e, g)
 
-  pub dv-is : (p : Point) (trusted : Rights) (n : Point) (z : Session) (d : Day) → n ≡ noPoint → z ≡ chainedTo (t .session) (record { reach = ToDv trusted; dv = p; terminal = n })
+  pub dv-is : (p : Certificate) (trusted : Rights) (n : Certificate) (z : Session) (d : Day) → n ≡ noCertificate → z ≡ chainedTo (t .session) (record { reach = ToDv trusted; dv = p; terminal = n })
       → d ≡ later (t .today) (p .first) → withToday (withSession t z) d ≡ dvTaken t p trusted
   unfolding dvTaken
   dv-is p trusted n z d e f g = rw (f, e, g)
 
-  pub terminal-is : (p : Point) (r : Reach) (z : Session) (d : Day) → r ≡ extended (t .session .context .chain .reach)
+  pub terminal-is : (p : Certificate) (r : Reach) (z : Session) (d : Day) → r ≡ extended (t .session .context .chain .reach)
       → z ≡ chainedTo (t .session) (record { reach = r; dv = t .session .context .chain .dv; terminal = p }) → d ≡ todayAfter (t .session .context .chain .dv) p (t .today)
       → withToday (withSession t z) d ≡ terminalTaken t p
   unfolding terminalTaken
@@ -87,7 +87,7 @@ module _ (t : Token) where
   unfolding unblockedByPuk
   by-puk-is n e = rw e
 
-  pub after-arm : (p : Point) (k : Key) (x d : Event) (r : Token) → x ≡ d → r ≡ afterOf t d p k → r ≡ afterOf t x p k
+  pub after-arm : (p : Certificate) (k : Key) (x d : Event) (r : Token) → x ≡ d → r ≡ afterOf t d p k → r ≡ afterOf t x p k
   after-arm p k x d r e z = z ∙ ap (λ (y : Event). afterOf t y p k) (sym e)
 
 pub ruleset changes = (extended-arm, choice-is, staged-is, step-is, opened-is, closed-is, lost-is, selected-is, link-is, dv-is, terminal-is, announced-is, by-puk-is, needs)

@@ -5,12 +5,12 @@ use mathlib.Core.List.{List}
 use borrow.Author.Tests.{lt-ltb, le-ltb}
 use lib.ListN.{length, take}
 use lib.Seq.{length-take-le}
-use Rattle.course.specs.declared.Note.{Note}
-use Rattle.course.specs.declared.Plan.{Plan}
-use Rattle.settle.specs.declared.Answered.{Answered}
-use Rattle.settle.specs.declared.Happened.{Happened}
-use Rattle.settle.specs.Settle.{settleOf}
-use Rattle.settle.proofs.Settles.{answer-in}
+use Rattle.plans.specs.declared.Note.{Note}
+use Rattle.plans.specs.declared.Plan.{Plan}
+use Rattle.verdicts.specs.declared.Answered.{Answered}
+use Rattle.verdicts.specs.declared.Happened.{Happened}
+use Rattle.verdicts.specs.Verdicts.{decidedOf}
+use Rattle.verdicts.proofs.Decisions.{answer-in}
 use Rattle.buffers.specs.Lay.{Written}
 use Rattle.reply.specs.Reply.{room}
 use Rattle.answer.specs.Answer.{replyTo}
@@ -29,14 +29,14 @@ module _ (t : Token) (s : List ℕ) (note : Note) (r : Answered) (first second :
     unfolding stepOf
     short-bytes o = rw (lt-ltb _ _ q) (refl, refl)
 
-  module _ (p : Plan) (e : p ≡ planOf t s note) (h : Happened) (f : h ≡ settleOf p r (length first) second) where
+  module _ (p : Plan) (e : p ≡ planOf t s note) (h : Happened) (f : h ≡ decidedOf p r (length first) second) where
     pub answer-part : h .answer ≤ length first
     answer-part = subst⁻¹ (λ (x : Happened). x .answer ≤ length first) f (answer-in p r (length first) second .1)
 
     pub answer-size : h .answer ≡ length (take (h .answer) first)
     answer-size = sym (length-take-le (h .answer) first answer-part)
 
-    module _ (q : room ≤ size) (n : Token) (g : n ≡ afterOf t (h .event) (h .point) (h .key)) where
+    module _ (q : room ≤ size) (n : Token) (g : n ≡ afterOf t (h .event) (h .certificate) (h .key)) where
       pub long-token : n ≡ stepOf t s note r first second size .token
       unfolding stepOf
       long-token = rw (le-ltb _ _ q, ← e, ← f) g

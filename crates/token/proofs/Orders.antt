@@ -8,12 +8,12 @@ use Rattle.command.specs.declared.kind.Kind.{Kind}
 use Rattle.event.specs.declared.Refusal.the-variants.{Moment, Outside}
 use Rattle.event.specs.declared.Loss.{Loss}
 use Rattle.event.specs.declared.Event.the-variants.{Refused, Lost}
-use Rattle.course.specs.declared.Note.{Note}
-use Rattle.course.specs.declared.Guard.{Guard}
-use Rattle.course.specs.declared.Guard.the-variants.{Passes, Drops}
-use Rattle.course.specs.declared.Job.{Job}
-use Rattle.course.specs.declared.Plan.{Plan}
-use Rattle.course.specs.Course.{settledBy, guardOf, courseJob}
+use Rattle.plans.specs.declared.Note.{Note}
+use Rattle.plans.specs.declared.Guard.{Guard}
+use Rattle.plans.specs.declared.Guard.the-variants.{Passes, Drops}
+use Rattle.plans.specs.declared.Job.{Job}
+use Rattle.plans.specs.declared.Plan.{Plan}
+use Rattle.plans.specs.Plans.{settledBy, guardOf, endingJob}
 use Rattle.fields.specs.declared.asked.Ask.{Ask}
 use Rattle.fields.specs.declared.asked.Request.{Request}
 use Rattle.fields.specs.declared.asked.Asked.{Asked}
@@ -54,7 +54,7 @@ module _ (t : Token) where
       unfolding planOf guarded
       passes a i e z = rw (← h, y, ← f, sym q ∙ e) (z ∙ ap (λ (x : Asked). requestedOf t x (x .request)) i)
 
-pub job-is : (p q : Plan) (j : Job) → p ≡ q → j ≡ courseJob (p .course) → j ≡ courseJob (q .course)
-job-is p q j e f = f ∙ ap (λ (x : Plan). courseJob (x .course)) e
+pub job-is : (p q : Plan) (j : Job) → p ≡ q → j ≡ endingJob (p .ending) → j ≡ endingJob (q .ending)
+job-is p q j e f = f ∙ ap (λ (x : Plan). endingJob (x .ending)) e
 
 pub ruleset orders = (untimely, timely, outside, dropped, passes, job-is, needs)

@@ -4,15 +4,15 @@ use mathlib.Core.Bool.{Bool, true, false, not, _&&_}
 use mathlib.Core.Path.{_≡_, ap, _∙_}
 use lib.Dec.{leb}
 use Rattle.days.specs.Days.{dayFits}
-use Rattle.points.specs.Points.{noPoint}
+use Rattle.certificate.specs.Certificate.{noCertificate}
 use Rattle.days.specs.declared.Day.{Day}
-use Rattle.points.specs.declared.Point.{Point}
+use Rattle.certificate.specs.declared.Certificate.{Certificate}
 use Rattle.trust.specs.Trust.{onePoint, pointsFit, knows}
 use Rattle.trust.specs.declared.Points.{Points}
 use Rattle.session.specs.declared.Session.{Session}
 use Rattle.standing.specs.Standing.{hasDv}
 use Rattle.session.specs.Session.{noSession}
-use Rattle.bounds.specs.Bounds.{contextFits}
+use Rattle.session_limits.specs.SessionLimits.{contextFits}
 use Rattle.token.specs.declared.state.Token.{Token}
 use Rattle.status.specs.declared.Intake.the-variants.{Accepted, Unfit}
 use Rattle.token.specs.declared.state.Personalised.{Personalised}
@@ -25,7 +25,7 @@ pub start-is : (h : Points) (d : Day) (z : Session) → z ≡ noSession
 unfolding startOf
 start-is h d z e = rw e
 
-pub none-is : (p : Point) (h : Points) (z : Session) → p ≡ noPoint → h ≡ onePoint p → z ≡ noSession
+pub none-is : (p : Certificate) (h : Points) (z : Session) → p ≡ noCertificate → h ≡ onePoint p → z ≡ noSession
     → _≡_ {A = Token} (record { pin = 0; active = false; puk = 0; today = record { 0 = 0 }; points = h; session = z }) noToken
 unfolding noToken
 none-is p h z e f g = rw (f, e, g)

@@ -2,9 +2,9 @@
 use Prim.Native.Nat.{ℕ, _-_}
 use mathlib.Core.Bool.{true, false, cond}
 use Rattle.days.specs.Days.{later}
-use Rattle.points.specs.Points.{noPoint, todayAfter}
+use Rattle.certificate.specs.Certificate.{noCertificate, todayAfter}
 use Rattle.keys.specs.declared.Key.{Key}
-use Rattle.points.specs.declared.Point.{Point}
+use Rattle.certificate.specs.declared.Certificate.{Certificate}
 use Rattle.rights.specs.declared.Rights.{Rights}
 use Rattle.rights.specs.declared.Granted.the-variants.{NoRights}
 use Rattle.run.specs.declared.Choice.{Choice}
@@ -57,12 +57,12 @@ unfoldable pub issuerSelected : Token → Issuer → Token
 issuerSelected t i = withSession t (selecting (t .session) i)
 
 -- "a link becomes newest, newest becomes previous, chain empty"; "Today becomes the first day if later"
-unfoldable pub linkTaken : Token → Point → Token
+unfoldable pub linkTaken : Token → Certificate → Token
 linkTaken t p = withToday (withSession (withPoints t (linked (t .points) p)) (chainedTo (t .session) noChain)) (later (t .today) (p .first))
 
 -- "a DV replaces the chain"
-unfoldable pub dvTaken : Token → Point → Rights → Token
-dvTaken t p trusted = withToday (withSession t (chainedTo (t .session) (record { reach = ToDv trusted; dv = p; terminal = noPoint }))) (later (t .today) (p .first))
+unfoldable pub dvTaken : Token → Certificate → Rights → Token
+dvTaken t p trusted = withToday (withSession t (chainedTo (t .session) (record { reach = ToDv trusted; dv = p; terminal = noCertificate }))) (later (t .today) (p .first))
 
 -- a chain's reach with a terminal under its DV; no plan comes here without a DV
 abbrev pub extended : Reach → Reach
@@ -71,7 +71,7 @@ extended (ToDv trusted) = ToTerminal trusted
 extended (ToTerminal trusted) = ToTerminal trusted
 
 -- "a terminal its terminal"
-unfoldable pub terminalTaken : Token → Point → Token
+unfoldable pub terminalTaken : Token → Certificate → Token
 terminalTaken t p =
     withToday
     (withSession t (chainedTo (t .session) (record { reach = extended (chainOf t .reach); dv = chainOf t .dv; terminal = p })))
@@ -88,7 +88,7 @@ unblocked t = withPin t tries
 unfoldable pub unblockedByPuk : Token → Token
 unblockedByPuk t = withPuk (withPin t tries) (t .puk - 1)
 
-unfoldable pub afterOf : Token → Event → Point → Key → Token
+unfoldable pub afterOf : Token → Event → Certificate → Key → Token
 afterOf t (Refused w) p k = t
 afterOf t (Lost l) p k = resetOf t
 afterOf t (Chosen c left) p k = choiceTaken t c

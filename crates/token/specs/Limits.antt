@@ -7,7 +7,7 @@ use Rattle.event.specs.declared.Issuer.the-variants.{Newest, Previous, Dv}
 use Rattle.standing.specs.declared.Selected.{Selected}
 use Rattle.standing.specs.declared.Selected.the-variants.{NoIssuer, Of}
 use Rattle.standing.specs.Standing.{hasDv}
-use Rattle.bounds.specs.Bounds.{contextFits}
+use Rattle.session_limits.specs.SessionLimits.{contextFits}
 use Rattle.token.specs.declared.state.Token.{Token}
 use Rattle.token.specs.State.{uses, contextOf, chainOf}
 use Rattle.run.specs.Run.{tries}
@@ -31,7 +31,7 @@ inLimits t =
     && dayFits (t .today)
     -- the trust points' names, dates, rights, and "two names .. are equal"
     && pointsFit (t .points)
-    -- what a session has of these: bounds
+    -- what a session has of these: session_limits
     && contextFits (contextOf t) (t .pin)
     -- "two names among trust points and chain DV are equal"
     && not (hasDv (chainOf t) && knows (t .points) (chainOf t .dv .name))

@@ -7,12 +7,12 @@ use Prim.Native.Nat.{ℕ}
 use Rattle.command.specs.declared.kind.Kind.{Kind}
 use Rattle.event.specs.declared.Refusal.the-variants.{Moment, Data, Outside}
 use Rattle.event.specs.declared.Event.the-variants.{Refused, Lost, Challenged, Proven, ProofLost, ChipKeyChosen, Activated, Deactivated, NotPassed}
-use Rattle.course.specs.declared.Note.{Note}
-use Rattle.course.specs.declared.Guard.{Guard}
-use Rattle.course.specs.declared.Guard.the-variants.{Passes, Drops}
-use Rattle.course.specs.declared.Job.the-variants.{Challenge as ChallengeJob, Proof}
-use Rattle.course.specs.declared.Plan.{Plan}
-use Rattle.course.specs.Course.{settledBy, awaitsBy, guardOf}
+use Rattle.plans.specs.declared.Note.{Note}
+use Rattle.plans.specs.declared.Guard.{Guard}
+use Rattle.plans.specs.declared.Guard.the-variants.{Passes, Drops}
+use Rattle.plans.specs.declared.Job.the-variants.{Challenge as ChallengeJob, Proof}
+use Rattle.plans.specs.declared.Plan.{Plan}
+use Rattle.plans.specs.Plans.{settledBy, awaitsBy, guardOf}
 use Rattle.fields.specs.declared.asked.Ask.{Ask}
 use Rattle.fields.specs.declared.asked.Ask.the-variants.{Bad, Choose, General, Select, Verify, Announce, Challenge, Prove, ChooseChipKey, Read, ChangePin, Unblock, Activate, Deactivate}
 use Rattle.fields.specs.declared.asked.Request.{Request}
@@ -33,7 +33,7 @@ commandOf t a Bad = settledBy (Refused Data)
 commandOf t a (Choose c) = choosePlan (t .pin) (t .active) (t .puk) (contextOf t .opened) c
 commandOf t a (General x) = generalPlan (contextOf t .key) (t .pin) (contextOf t .stage) x
 commandOf t a Select = selectPlan (t .points) (chainOf t) (a .name)
-commandOf t a Verify = verifyPlan (t .points) (chainOf t .dv) (t .today) (t .session .selected) (a .name) (a .point)
+commandOf t a Verify = verifyPlan (t .points) (chainOf t .dv) (t .today) (t .session .selected) (a .name) (a .certificate)
 commandOf t a Announce = announcePlan (chainOf t .terminal .name) (a .name) (a .key)
 -- "eight bytes; not passed 6300, same state"
 commandOf t a Challenge = awaitsBy ChallengeJob Challenged NotPassed

@@ -2,7 +2,7 @@
 use Prim.Native.Nat.{ℕ}
 use mathlib.Core.Bool.{Bool, true, false, cond, _&&_}
 use Rattle.days.specs.Days.{dayFits}
-use Rattle.points.specs.Points.{noPoint}
+use Rattle.certificate.specs.Certificate.{noCertificate}
 use Rattle.days.specs.declared.Day.{Day}
 use Rattle.trust.specs.Trust.{onePoint, pointsFit}
 use Rattle.trust.specs.declared.Points.{Points}
@@ -57,7 +57,7 @@ unfoldable pub startOf : Points → Day → Token
 startOf h d = record { pin = tries; active = true; puk = uses; today = d; points = h; session = noSession }
 
 unfoldable pub noToken : Token
-noToken = record { pin = 0; active = false; puk = 0; today = record { 0 = 0 }; points = onePoint noPoint; session = noSession }
+noToken = record { pin = 0; active = false; puk = 0; today = record { 0 = 0 }; points = onePoint noCertificate; session = noSession }
 
 -- "Personalise takes one or two trust points and a date (newest point first), refuses bad names, bad dates, roles other than
 -- CVCA or equal names with 6A80"

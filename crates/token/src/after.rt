@@ -4,21 +4,21 @@ ghost use Rattle.token.specs.After.{choiceTaken, stepPassed, opened, run
 ghost use Rattle.token.specs.State.{withActive};
 ghost use Rattle.standing.specs.declared.Stage.the-variants.{Announced};
 use super::state::Token;
+use certificate::Certificate;
+use certificate::today_after;
 use event::Event;
 use event::Issuer;
 use keys::Key;
-use points::Point;
-use points::today_after;
 use rights::Granted;
 use rights::Rights;
 use run::Choice;
 use run::Step;
 use session::Session;
-use settle::Happened;
 use standing::Chain;
 use standing::Opened;
 use standing::Reach;
 use standing::Stage;
+use verdicts::Happened;
 
 // The PIN's tries when a session opens with this choice.
 fn tries_after(choice: Choice, pin: u8) -> u8
@@ -122,7 +122,7 @@ impl Token {
     }
 
     // A link becomes newest, newest becomes previous, the chain is empty.
-    fn link_taken(mut self, link: Point) -> Self
+    fn link_taken(mut self, link: Certificate) -> Self
         ensures { λ r. ⌜ r ≡ linkTaken self link ⌝ }
     {
         let h = self.points;
@@ -138,12 +138,12 @@ impl Token {
     }
 
     // A DV replaces the chain.
-    fn dv_taken(mut self, dv: Point, trusted: Rights) -> Self
+    fn dv_taken(mut self, dv: Certificate, trusted: Rights) -> Self
         ensures { λ r. ⌜ r ≡ dvTaken self dv trusted ⌝ }
     {
         let z = self.session;
         let d = self.today;
-        let none = Point::none();
+        let none = Certificate::none();
         let chain = Chain {
             reach: Reach::ToDv(trusted),
             dv: dv,
@@ -157,7 +157,7 @@ impl Token {
     }
 
     // A terminal replaces the chain's terminal.
-    fn terminal_taken(mut self, terminal: Point) -> Self
+    fn terminal_taken(mut self, terminal: Certificate) -> Self
         ensures { λ r. ⌜ r ≡ terminalTaken self terminal ⌝ }
     {
         let z = self.session;
@@ -215,10 +215,10 @@ impl Token {
     }
 
     pub fn after(mut self, h: Happened) -> Self
-        ensures { λ r. ⌜ r ≡ afterOf self (h .event) (h .point) (h .key) ⌝ }
+        ensures { λ r. ⌜ r ≡ afterOf self (h .event) (h .certificate) (h .key) ⌝ }
     {
         let e = h.event;
-        let point = h.point;
+        let certificate = h.certificate;
         let key = h.key;
         match e {
             Event::Refused(_) => self,
@@ -229,9 +229,9 @@ impl Token {
             Event::RunClosed => self.run_closed(),
             Event::TrialLost(left) => self.trial_lost(left),
             Event::Selected(issuer) => self.issuer_selected(issuer),
-            Event::LinkTaken => self.link_taken(point),
-            Event::DvTaken(trusted) => self.dv_taken(point, trusted),
-            Event::TerminalTaken => self.terminal_taken(point),
+            Event::LinkTaken => self.link_taken(certificate),
+            Event::DvTaken(trusted) => self.dv_taken(certificate, trusted),
+            Event::TerminalTaken => self.terminal_taken(certificate),
             Event::Announced => self.announced(key),
             Event::Challenged => self.staged(Stage::Challenged),
             Event::Proven => self.staged(Stage::Proven),

@@ -2,8 +2,8 @@
 ghost use mathlib.Core.Path.{_≡_};
 ghost use Rattle.token.specs.Limits.{selectable, inLimits};
 use super::state::Token;
-use bounds::context_fits;
 use event::Issuer;
+use session_limits::context_fits;
 use standing::Selected;
 
 // Whether a selection is one of the trust points held or the chain's DV.

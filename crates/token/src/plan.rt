@@ -1,19 +1,19 @@
 // All checks before the verdict, in document 01's order.
 ghost use mathlib.Core.Path.{_≡_};
-ghost use Rattle.course.specs.Course.{courseJob};
+ghost use Rattle.plans.specs.Plans.{endingJob};
 ghost use Rattle.token.specs.Plan.{commandOf, timedOf, requestedOf, planOf};
 use super::state::Token;
 use command::kind::Kind;
-use course::Guard;
-use course::Job;
-use course::Note;
-use course::Plan;
 use event::Event;
 use event::Refusal;
 use fields::asked::Ask;
 use fields::asked::Asked;
 use fields::asked::Request;
 use moment::moment;
+use plans::Guard;
+use plans::Job;
+use plans::Note;
+use plans::Plan;
 
 impl Token {
     // The command's own checks, data first.
@@ -38,7 +38,7 @@ impl Token {
             Ask::Select => certify::select(points, chain, name),
             Ask::Verify => {
                 let selected = session.selected;
-                certify::verify(points, dv, self.today, selected, name, a.point)
+                certify::verify(points, dv, self.today, selected, name, a.certificate)
             }
             Ask::Announce => checks::announce(terminal.name, name, key),
             Ask::Challenge => Plan::awaits(Job::Challenge, Event::Challenged, Event::NotPassed),
@@ -94,10 +94,10 @@ impl Token {
 
     // Which job a command and its note want.
     pub fn job(self, s: &[u8], note: Note) -> Job
-        ensures { λ r. ⌜ r ≡ courseJob (planOf self (now (s .entry)) note .course) ⌝ }
+        ensures { λ r. ⌜ r ≡ endingJob (planOf self (now (s .entry)) note .ending) ⌝ }
     {
         let p = self.plan(s, note);
-        let course = p.course;
-        course.job()
+        let ending = p.ending;
+        ending.job()
     }
 }

@@ -2,10 +2,10 @@
 ghost use mathlib.Core.Path.{_≡_};
 ghost use Rattle.trust.specs.Trust.{onePoint, twoPoints};
 ghost use Rattle.token.specs.State.{startOf, noToken, madeOf, resetOf};
+use certificate::Certificate;
 use days::Day;
 use keys::Key;
 use names::Name;
-use points::Point;
 use session::Session;
 use status::Intake;
 use trust::Points;
@@ -58,8 +58,8 @@ impl Token {
     pub fn none() -> Self
         ensures { λ r. ⌜ r ≡ noToken ⌝ }
     {
-        let point = Point::none();
-        let points = Points::one(point);
+        let certificate = Certificate::none();
+        let points = Points::one(certificate);
         let session = Session::none();
         Token {
             pin: 0,
@@ -92,14 +92,14 @@ impl Token {
     }
 
     // Personalise with one trust point.
-    pub fn with_one(newest: Point, today: Day) -> Personalised
+    pub fn with_one(newest: Certificate, today: Day) -> Personalised
         ensures { λ r. ⌜ r ≡ madeOf (onePoint newest) today ⌝ }
     {
         Token::made(Points::one(newest), today)
     }
 
     // Personalise with two, the newest first.
-    pub fn with_two(newest: Point, previous: Point, today: Day) -> Personalised
+    pub fn with_two(newest: Certificate, previous: Certificate, today: Day) -> Personalised
         ensures { λ r. ⌜ r ≡ madeOf (twoPoints newest previous) today ⌝ }
     {
         Token::made(Points::both(newest, previous), today)

@@ -1,11 +1,11 @@
-// One step: a buffer under 258 answers 6F00 at once; else plan, settle, after, reply.
+// One step: a buffer under 258 answers 6F00 at once; else plan, decide, after, reply.
 ghost use mathlib.Core.Path.{_≡_};
 ghost use lib.ListN.{length};
 ghost use Rattle.buffers.specs.Lay.{Written};
 ghost use Rattle.token.specs.Step.{stepOf};
 use super::state::Token;
-use course::Note;
-use settle::Answered;
+use plans::Note;
+use verdicts::Answered;
 
 // What a step hands back: the token, and the reply's length.
 pub struct Outcome {
@@ -33,7 +33,7 @@ impl Token {
             };
         }
         let p = self.plan(s, note);
-        let h = settle::settle(p, result, first, second);
+        let h = verdicts::decide(p, result, first, second);
         let e = h.event;
         let n = h.answer;
         let next = self.after(h);

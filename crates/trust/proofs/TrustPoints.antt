@@ -5,20 +5,20 @@ use mathlib.Core.Path.{_≡_}
 use Rattle.names.specs.Names.{sameName}
 use Rattle.rights.specs.Rights.{roleOf}
 use Rattle.roles.specs.Roles.{isCvca}
-use Rattle.points.specs.Points.{noPoint, pointFits}
+use Rattle.certificate.specs.Certificate.{noCertificate, certificateFits}
 use Rattle.names.specs.declared.Name.{Name}
-use Rattle.points.specs.declared.Point.{Point}
+use Rattle.certificate.specs.declared.Certificate.{Certificate}
 use Rattle.roles.specs.declared.Role.{Role}
 use Rattle.event.specs.declared.Issuer.the-variants.{Newest, Previous}
 use Rattle.trust.specs.Trust.{trustPointFits, onePoint, pointsFit, knows, found}
 use Rattle.trust.specs.declared.Points.{Points}
 use Rattle.trust.specs.declared.Trusted.the-variants.{Is, Unknown}
 
-pub trust-point-is : (p : Point) (a b : Bool) (r : Role) → a ≡ pointFits p → r ≡ roleOf (p .rights) → b ≡ isCvca r → a && b ≡ trustPointFits p
+pub trust-point-is : (p : Certificate) (a b : Bool) (r : Role) → a ≡ certificateFits p → r ≡ roleOf (p .rights) → b ≡ isCvca r → a && b ≡ trustPointFits p
 unfolding trustPointFits
 trust-point-is p a b r e f g = rw (e, g, f)
 
-pub one-is : (p n : Point) → n ≡ noPoint → _≡_ {A = Points} (record { newest = p; previous = n; two = false }) (onePoint p)
+pub one-is : (p n : Certificate) → n ≡ noCertificate → _≡_ {A = Points} (record { newest = p; previous = n; two = false }) (onePoint p)
 unfolding onePoint
 one-is p n e = rw e
 

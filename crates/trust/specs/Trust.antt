@@ -3,9 +3,9 @@ use mathlib.Core.Bool.{Bool, true, false, cond, not, _&&_, _||_}
 use Rattle.names.specs.Names.{sameName}
 use Rattle.rights.specs.Rights.{roleOf}
 use Rattle.roles.specs.Roles.{isCvca}
-use Rattle.points.specs.Points.{noPoint, pointFits}
+use Rattle.certificate.specs.Certificate.{noCertificate, certificateFits}
 use Rattle.names.specs.declared.Name.{Name}
-use Rattle.points.specs.declared.Point.{Point}
+use Rattle.certificate.specs.declared.Certificate.{Certificate}
 use Rattle.event.specs.declared.Issuer.{Issuer}
 use Rattle.event.specs.declared.Issuer.the-variants.{Newest, Previous, Dv}
 use Rattle.trust.specs.declared.Points.{Points}
@@ -13,13 +13,13 @@ use Rattle.trust.specs.declared.Trusted.{Trusted}
 use Rattle.trust.specs.declared.Trusted.the-variants.{Is, Unknown}
 
 -- a good name, good dates, rights of 40 bits, role CVCA
-unfoldable pub trustPointFits : Point → Bool
-trustPointFits p = pointFits p && isCvca (roleOf (p .rights))
+unfoldable pub trustPointFits : Certificate → Bool
+trustPointFits p = certificateFits p && isCvca (roleOf (p .rights))
 
-unfoldable pub onePoint : Point → Points
-onePoint newest = record { newest = newest; previous = noPoint; two = false }
+unfoldable pub onePoint : Certificate → Points
+onePoint newest = record { newest = newest; previous = noCertificate; two = false }
 
-unfoldable pub twoPoints : Point → Point → Points
+unfoldable pub twoPoints : Certificate → Certificate → Points
 twoPoints newest previous = record { newest = newest; previous = previous; two = true }
 
 -- each is good, and their names differ; what is not held is not judged
@@ -35,11 +35,11 @@ unfoldable pub found : Points → Name → Trusted
 found h n = cond (sameName n (h .newest .name)) (Is Newest) (cond (h .two && sameName n (h .previous .name)) (Is Previous) Unknown)
 
 -- the certificate of an issuer, where the chain's DV is this one
-abbrev pub issuerOf : Points → Issuer → Point → Point
+abbrev pub issuerOf : Points → Issuer → Certificate → Certificate
 issuerOf h Newest dv = h .newest
 issuerOf h Previous dv = h .previous
 issuerOf h Dv dv = dv
 
 -- "a link becomes newest, newest becomes previous"
-unfoldable pub linked : Points → Point → Points
+unfoldable pub linked : Points → Certificate → Points
 linked h p = record { newest = p; previous = h .newest; two = true }

@@ -1,13 +1,13 @@
 // The trust points that a token holds: the newest, and perhaps a previous one.
 ghost use mathlib.Core.Path.{_≡_};
 ghost use Rattle.trust.specs.Trust.{trustPointFits, onePoint, twoPoints, pointsFit, knows, found, issuerOf, linked};
+use certificate::Certificate;
 use event::Issuer;
 use names::Name;
-use points::Point;
 
 pub struct Points {
-    pub newest: Point,
-    pub previous: Point,
+    pub newest: Certificate,
+    pub previous: Certificate,
     pub two: bool,
 }
 
@@ -18,7 +18,7 @@ pub enum Trusted {
 }
 
 // Whether a trust point is within its limits.
-fn trust_point_fits(p: Point) -> bool
+fn trust_point_fits(p: Certificate) -> bool
     ensures { λ r. ⌜ r ≡ trustPointFits p ⌝ }
 {
     let rights = p.rights;
@@ -28,10 +28,10 @@ fn trust_point_fits(p: Point) -> bool
 }
 
 impl Points {
-    pub fn one(newest: Point) -> Self
+    pub fn one(newest: Certificate) -> Self
         ensures { λ r. ⌜ r ≡ onePoint newest ⌝ }
     {
-        let none = Point::none();
+        let none = Certificate::none();
         Points {
             newest: newest,
             previous: none,
@@ -39,7 +39,7 @@ impl Points {
         }
     }
 
-    pub fn both(newest: Point, previous: Point) -> Self
+    pub fn both(newest: Certificate, previous: Certificate) -> Self
         ensures { λ r. ⌜ r ≡ twoPoints newest previous ⌝ }
     {
         Points {
@@ -95,7 +95,7 @@ impl Points {
     }
 
     // The certificate of an issuer, where the chain's DV is this one.
-    pub fn issuer(self, which: Issuer, dv: Point) -> Point
+    pub fn issuer(self, which: Issuer, dv: Certificate) -> Certificate
         ensures { λ r. ⌜ r ≡ issuerOf self which dv ⌝ }
     {
         match which {
@@ -106,7 +106,7 @@ impl Points {
     }
 
     // A link becomes newest, and newest becomes previous.
-    pub fn linked(self, link: Point) -> Self
+    pub fn linked(self, link: Certificate) -> Self
         ensures { λ r. ⌜ r ≡ linked self link ⌝ }
     {
         let old = self.newest;

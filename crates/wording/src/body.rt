@@ -3,12 +3,12 @@ use super::BYTES;
 use super::expected::refused;
 use super::labelled;
 use super::stated::string;
+use bodies::Body;
+use bodies::Place;
+use bodies::read_body;
 use buffers::put;
-use certificate::Body;
-use certificate::Place;
-use certificate::read_body;
+use certificate::Certificate;
 use names::Name;
-use points::Point;
 use status::Intake;
 use text::front;
 use words::count;
@@ -24,7 +24,7 @@ fn place(out: &mut [u8], at: usize, label: &[u8], p: Place) -> usize {
     labelled::number(&mut *out, next, b"..", p.end as u64)
 }
 
-fn terms(out: &mut [u8], issuer: Name, p: Point) -> usize {
+fn terms(out: &mut [u8], issuer: Name, p: Certificate) -> usize {
     let own = p.name;
     let rights = p.rights;
     let first = p.first;
@@ -38,10 +38,10 @@ fn terms(out: &mut [u8], issuer: Name, p: Point) -> usize {
 
 fn fields(out: &mut [u8], b: Body) -> usize {
     let issuer = b.issuer;
-    let point = b.point;
+    let certificate = b.certificate;
     let key = b.key;
     let extension = b.ext;
-    let x = terms(&mut *out, issuer, point);
+    let x = terms(&mut *out, issuer, certificate);
     let y = place(&mut *out, x, b" key=", key);
     let z = place(&mut *out, y, b" extension=", extension);
     labelled::number(&mut *out, z, b" objects=", b.count as u64)

@@ -6,9 +6,9 @@ use super::stated::fixed;
 use super::stated::name;
 use super::stated::number;
 use super::stated::string;
+use certificate::Certificate;
 use days::Day;
 use digits::number::Radix;
-use points::Point;
 use rights::Rights;
 use text::front;
 use words::count;
@@ -17,7 +17,7 @@ use words::word;
 // A trust point that five words state; not good where a word is not one.
 struct StatedPoint {
     good: bool,
-    point: Point,
+    certificate: Certificate,
 }
 
 // What a line states; not good where a word is not as it should be. The previous point counts where there are two.
@@ -25,8 +25,8 @@ pub struct Personalisation {
     pub good: bool,
     pub two: bool,
     pub today: Day,
-    pub newest: Point,
-    pub previous: Point,
+    pub newest: Certificate,
+    pub previous: Certificate,
 }
 
 // The trust point that the words from k on state.
@@ -44,7 +44,7 @@ fn point_at(line: &[u8], k: usize) -> StatedPoint
     let own = name(front(&work, called.len));
     StatedPoint {
         good: called.good & rights.good & first.good & last.good & key.good,
-        point: Point {
+        certificate: Certificate {
             name: own,
             rights: Rights(rights.n),
             first: from,
@@ -60,8 +60,8 @@ pub fn read_personalisation(line: &[u8]) -> Personalisation {
     let today = day(date.n);
     let a = point_at(line, 2);
     let b = point_at(line, 7);
-    let newest = a.point;
-    let previous = b.point;
+    let newest = a.certificate;
+    let previous = b.certificate;
     // Six spaces with one point, eleven with two.
     Personalisation {
         good: date.good & a.good & ((n == 6) | (b.good & (n == 11))),

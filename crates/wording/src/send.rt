@@ -3,15 +3,15 @@
 use super::stated::Strung;
 use super::stated::number;
 use super::stated::string;
-use course::Job;
-use course::Note;
 use digits::hex::put_hex;
 use digits::number::Radix;
+use plans::Job;
+use plans::Note;
 use reply::ROOM;
 use run::Step;
-use settle::Verdict;
 use strings::same;
 use text::front;
+use verdicts::Verdict;
 use words::count;
 use words::word;
 

@@ -22,7 +22,7 @@ pub fn section() {
 fn refused(s: &[u8]) -> usize
     ensures { λ r. ⌜ r ≤ 1 ⌝ }
 {
-    let r = certificate::read_body(s);
+    let r = bodies::read_body(s);
     let answer = r.answer;
     match answer {
         Intake::Accepted => 0,

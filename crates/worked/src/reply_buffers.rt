@@ -2,15 +2,15 @@
 use super::show::heading;
 use super::show::number;
 use super::show::write;
-use course::Job;
-use course::Note;
+use certificate::Certificate;
 use days::Day;
 use names::Name;
-use points::Point;
+use plans::Job;
+use plans::Note;
 use rights::Rights;
-use settle::Answered;
-use settle::Verdict;
 use token::state::Token;
+use verdicts::Answered;
+use verdicts::Verdict;
 use words::count;
 
 // The CAN chosen, into a buffer of AA.
@@ -31,14 +31,14 @@ fn chosen(t: Token, out: &mut [u8]) {
 }
 
 fn token() -> Token {
-    let point = Point {
+    let certificate = Certificate {
         name: Name::of(b"UTCVCAAT00001"),
         rights: Rights(0xFF_FFFF_FFFF),
         first: Day(20260101),
         last: Day(20281231),
         key: 1,
     };
-    let p = Token::with_one(point, Day(20260215));
+    let p = Token::with_one(certificate, Day(20260215));
     let t = p.token;
     t
 }

@@ -1,5 +1,5 @@
 // Writes what was read as text.
-use certificate::Body;
+use bodies::Body;
 use days::Day;
 use digits::number::Radix;
 use digits::number::put_digits;
@@ -60,11 +60,11 @@ fn name(n: Name) {
 
 fn fields(b: Body) {
     let issuer = b.issuer;
-    let point = b.point;
-    let holder = point.name;
-    let held = point.rights;
-    let first = point.first;
-    let last = point.last;
+    let certificate = b.certificate;
+    let holder = certificate.name;
+    let held = certificate.rights;
+    let first = certificate.first;
+    let last = certificate.last;
     write(b"read ");
     name(issuer);
     name(holder);
@@ -78,7 +78,7 @@ fn fields(b: Body) {
 pub fn body(called: &[u8], s: &[u8]) {
     write(called);
     write(b" ");
-    let r = certificate::read_body(s);
+    let r = bodies::read_body(s);
     let answer = r.answer;
     match answer {
         Intake::Accepted => {

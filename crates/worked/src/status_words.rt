@@ -1,7 +1,7 @@
 // Each status word of document 01's table, by a command that is answered so.
 use super::show::heading;
 use super::told::told;
-use laid::Desk;
+use desk_token::Desk;
 use token::state::Token;
 
 // 9000, 63CX both ways, 6985 and 6983: the tries of the PIN, and the PUK.

@@ -1,7 +1,7 @@
 // A script in the desk's language, told: what a line shows, the line, its answer.
 use super::show::number;
 use super::show::write;
-use laid::Desk;
+use desk_token::Desk;
 use lines::answer;
 use text::find;
 use text::front;

@@ -1,7 +1,7 @@
 // A whole session, from the personalisation to the reads, and what a new choice leaves.
 use super::show::heading;
 use super::told::told;
-use laid::Desk;
+use desk_token::Desk;
 
 // The PIN with rights, the chain, the terminal, the chip key, the reads; then the CAN chosen.
 const SESSION: [u8; 4395] =

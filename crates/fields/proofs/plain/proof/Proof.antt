@@ -1,7 +1,7 @@
 -- `fields::plain::proof` meets its contract. Assumes nothing.
 use Rattle.fields.proofs.Ways.{ladders}
 use Rattle.fields.specs.Plain.{proofOf}
-use Rattle.certificate.specs.Body.{isSignature}
+use Rattle.bodies.specs.Body.{isSignature}
 use Rattle.fields.proofs.plain.proof.Statement.{statement}
 use Rattle.fields.proofs.plain.proof.Tie as tie
 

@@ -1,6 +1,6 @@
 -- `lines::personalise::personalise` meets its contract. Assumes nothing.
 use borrow.Author.Needs.{needs}
-use Rattle.laid.proofs.Moving.{made-as}
+use Rattle.desk_token.proofs.Moving.{made-as}
 use Rattle.lines.proofs.Turning.{unmade-there}
 use Rattle.lines.proofs.personalise.personalise.Statement.{statement}
 use Rattle.lines.proofs.personalise.personalise.Tie as tie

@@ -1,6 +1,6 @@
 -- `lines::send::step_of` meets its contract. Assumes nothing.
 use borrow.Author.Needs.{needs}
-use Rattle.laid.proofs.Moving.{stepped-as}
+use Rattle.desk_token.proofs.Moving.{stepped-as}
 use Rattle.lines.proofs.send.step_of.Statement.{statement}
 use Rattle.lines.proofs.send.step_of.Tie as tie
 

@@ -1,0 +1,4 @@
+pub mod Contents
+pub mod Links
+pub mod Good
+pub mod Examples
