@@ -45,9 +45,9 @@ unfolding objectsIn objects objectsOf foundIn headerOf tagOf secondTagByte lenOf
 values-met =
     record {
       p1 = refl;
-      p2 = refl;
+      p2 = (refl, refl, refl);
       p3 = refl;
-      p4 = refl;
+      p4 = (refl, refl, refl, refl);
       p5 = (refl, refl);
       p6 = (refl, refl);
       p7 = refl;

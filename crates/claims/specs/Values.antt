@@ -1,6 +1,6 @@
 -- "Values to meet": P1 to P12, one list. The tokens are written here; what they answer is computed by the definitions that the
 -- contracts cite. Assumes nothing: these are definitions.
-use Prim.Native.Nat.{ℕ}
+use Prim.Native.Nat.{ℕ, _+_}
 use mathlib.Core.Bool.{true, false}
 use mathlib.Core.Path.{_≡_}
 use mathlib.Core.List.{List, [], _∷_}
@@ -10,7 +10,7 @@ use Rattle.objects.specs.declared.Head.the-variants.{Header, NoHeader}
 use Rattle.names.specs.Names.{nameOf}
 use Rattle.keys.specs.Keys.{keyOf}
 use Rattle.certificate.specs.Certificate.{noCertificate}
-use Rattle.rights.specs.Rights.{common, groupMask, readsGroup}
+use Rattle.rights.specs.Rights.{readsGroup}
 use Rattle.names.specs.declared.Name.{Name}
 use Rattle.certificate.specs.declared.Certificate.{Certificate}
 use Rattle.rights.specs.declared.Rights.{Rights}
@@ -25,6 +25,7 @@ use Rattle.plans.specs.declared.Note.the-variants.{Plain, Protected}
 use Rattle.plans.specs.declared.Job.the-variants.{Nothing, Step, Certificate as CertificateJob}
 use Rattle.verdicts.specs.declared.Answered.{Answered}
 use Rattle.verdicts.specs.declared.Verdict.the-variants.{Passed, Failed, Missing}
+use Rattle.reply.specs.Reply.{room}
 use Rattle.trust.specs.Trust.{onePoint}
 use Rattle.standing.specs.declared.Opened.{Opened}
 use Rattle.standing.specs.declared.Opened.the-variants.{Nobody, By}
@@ -39,7 +40,7 @@ use Rattle.session.specs.Session.{bareSession, chainedTo, announcedWith, atStag
 use Rattle.authorization.specs.Authorization.{authorization}
 use Rattle.token.specs.declared.state.Token.{Token}
 use Rattle.token.specs.State.{startOf, withPin, withSession}
-use Rattle.token.specs.Step.{Stepped, stepOf}
+use Rattle.token.specs.Step.{exchange, Stepped, stepOf}
 
 -- ---- certificates
 
@@ -109,9 +110,9 @@ openedBy p = bareSession (By p) (These confirmedRights) Idle
 abbrev pub chained : Password → Rights → Stage → Session
 chained p r s = atStage (announcedWith (chainedTo (openedBy p) (toTerminal r)) (keyOf (0x02 ∷ 0x11 ∷ []))) s
 
--- authenticated, opened by the CAN
-abbrev pub byCan : Rights → Context
-byCan r = chained Can r Authenticated .context
+-- authenticated, opened by this password
+abbrev pub authenticatedBy : Password → Rights → Context
+authenticatedBy p r = chained p r Authenticated .context
 
 -- a token with one trust point, on this day, with this session
 abbrev pub tokenAt : ℕ → Session → Token
@@ -135,9 +136,9 @@ choosePin = 0x00 ∷ 0x22 ∷ 0xC1 ∷ 0xA4 ∷ 0x0F ∷ 0x80 ∷ 0x0A ∷ 0x04 
 abbrev pub stepFour : List ℕ
 stepFour = 0x00 ∷ 0x86 ∷ 0x00 ∷ 0x00 ∷ 0x0C ∷ 0x7C ∷ 0x0A ∷ 0x85 ∷ 0x08 ∷ 0xA1 ∷ 0xA2 ∷ 0xA3 ∷ 0xA4 ∷ 0xA5 ∷ 0xA6 ∷ 0xA7 ∷ 0xA8 ∷ 0x00 ∷ []
 
--- B0 8100: read group 1
-abbrev pub readOne : List ℕ
-readOne = 0x00 ∷ 0xB0 ∷ 0x81 ∷ 0x00 ∷ 0x00 ∷ []
+-- B0, P1 80+n, P2 00: read group n
+abbrev pub readGroup : ℕ → List ℕ
+readGroup n = 0x00 ∷ 0xB0 ∷ (0x80 + n) ∷ 0x00 ∷ 0x00 ∷ []
 
 -- 2A 00BE: UTDVDOM00001 under UTCVCAAT00001, 2026-02-01 to 2026-05-01
 abbrev pub verifyDv : List ℕ
@@ -158,18 +159,18 @@ noResult = record { job = Nothing; verdict = Missing }
 
 -- step four with a verdict that failed, and the eight bytes of its string
 abbrev pub trialFailed : Token → Stepped
-trialFailed t = stepOf t stepFour Plain (record { job = Step Confirm; verdict = Failed }) (0x11 ∷ 0x22 ∷ 0x33 ∷ 0x44 ∷ 0x55 ∷ 0x66 ∷ 0x77 ∷ 0x88 ∷ []) [] 258
+trialFailed t = stepOf t (exchange stepFour Plain (record { job = Step Confirm; verdict = Failed }) (0x11 ∷ 0x22 ∷ 0x33 ∷ 0x44 ∷ 0x55 ∷ 0x66 ∷ 0x77 ∷ 0x88 ∷ []) [] room)
 
 -- a command in an open session, with no result; and in none
 abbrev pub asked : Token → List ℕ → Stepped
-asked t s = stepOf t s Protected noResult [] [] 258
+asked t s = stepOf t (exchange s Protected noResult [] [] room)
 
 abbrev pub askedPlain : Token → List ℕ → Stepped
-askedPlain t s = stepOf t s Plain noResult [] [] 258
+askedPlain t s = stepOf t (exchange s Plain noResult [] [] room)
 
 -- a certificate that verifies, on this day, under this issuer selected
 abbrev pub certified : ℕ → Chain → Issuer → List ℕ → Stepped
-certified today c i s = stepOf (tokenAt today (selecting (chainedTo (openedBy Pin) c) i)) s Protected (record { job = CertificateJob; verdict = Passed 7 }) [] [] 258
+certified today c i s = stepOf (tokenAt today (selecting (chainedTo (openedBy Pin) c) i)) (exchange s Protected (record { job = CertificateJob; verdict = Passed 7 }) [] [] room)
 
 -- the PIN chosen while authenticated
 abbrev pub chosenIn : Stepped
@@ -179,13 +180,13 @@ chosenIn = asked (tokenIn (chained Pin terminalRights Authenticated)) choosePin
 
 pub record Values : Type 0 where
   -- rights FFFFFFFFFF, 800FFF0130, 0000000110, 0000000310 give 0000000110
-  pub p1 : common rootRights dvRights terminalRights confirmedRights ≡ record { 0 = 0x0000000110 }
-  -- the same with CAN: group 1 yes
-  pub p2 : readsGroup (authorization (byCan terminalRights)) 1 ≡ true
+  pub p1 : authorization (authenticatedBy Pin terminalRights) ≡ record { 0 = 0x0000000110 }
+  -- the same with CAN: group 1 yes, and a read of it; group 2 not
+  pub p2 : (authorization (authenticatedBy Can terminalRights) ≡ record { 0 = 0x0000000110 }) × (asked (tokenIn (chained Can terminalRights Authenticated)) (readGroup 1) .bytes ≡ 0x90 ∷ 0x00 ∷ []) × (asked (tokenIn (chained Can terminalRights Authenticated)) (readGroup 2) .bytes ≡ 0x69 ∷ 0x82 ∷ [])
   -- third 0000000100 with CAN: zero
-  pub p3 : authorization (byCan (record { 0 = 0x0000000100 })) ≡ record { 0 = 0 }
-  -- group 21 is 0010000000
-  pub p4 : groupMask 21 ≡ 0x0010000000
+  pub p3 : authorization (authenticatedBy Can (record { 0 = 0x0000000100 })) ≡ record { 0 = 0 }
+  -- group 21 is 0010000000: it reads 21, not 20 and not 22, and no other bit reads 21
+  pub p4 : (readsGroup (record { 0 = 0x0010000000 }) 21 ≡ true) × (readsGroup (record { 0 = 0x0010000000 }) 20 ≡ false) × (readsGroup (record { 0 = 0x0010000000 }) 22 ≡ false) × (readsGroup (record { 0 = 0xFFEFFFFFFF }) 21 ≡ false)
   -- counter 2, trial lost: 63C1, and the counter is 1
   pub p5 : (trialFailed (runAt 2 Nobody) .bytes ≡ 0x63 ∷ 0xC1 ∷ []) × (trialFailed (runAt 2 Nobody) .token .pin ≡ 1)
   -- counter 1, none: 63C0, and the counter is 0
@@ -201,6 +202,6 @@ pub record Values : Type 0 where
   -- length 81 7F refused, 81 80 read
   pub p10 : (headerOf (0x53 ∷ 0x81 ∷ 0x7F ∷ replicate 0x7F 0x00) ≡ NoHeader) × (headerOf (0x53 ∷ 0x81 ∷ 0x80 ∷ replicate 0x80 0x00) ≡ Header 0x53 false 3 0x83)
   -- proof passed, read before chip key: 6982; the same session authenticated reads
-  pub p11 : (asked (tokenIn (chained Pin terminalRights Proven)) readOne .bytes ≡ 0x69 ∷ 0x82 ∷ []) × (asked (tokenIn (chained Pin terminalRights Authenticated)) readOne .bytes ≡ 0x90 ∷ 0x00 ∷ [])
+  pub p11 : (asked (tokenIn (chained Pin terminalRights Proven)) (readGroup 1) .bytes ≡ 0x69 ∷ 0x82 ∷ []) × (asked (tokenIn (chained Pin terminalRights Authenticated)) (readGroup 1) .bytes ≡ 0x90 ∷ 0x00 ∷ [])
   -- choice while authenticated, then read: 6985
-  pub p12 : (chosenIn .bytes ≡ 0x90 ∷ 0x00 ∷ []) × (asked (chosenIn .token) readOne .bytes ≡ 0x69 ∷ 0x85 ∷ [])
+  pub p12 : (chosenIn .bytes ≡ 0x90 ∷ 0x00 ∷ []) × (asked (chosenIn .token) (readGroup 1) .bytes ≡ 0x69 ∷ 0x85 ∷ [])

@@ -1,18 +1,14 @@
 -- What the methods do, and what may become of a desk. Assumes nothing.
-use Prim.Native.Nat.{ℕ}
 use mathlib.Core.Path.{_≡_, refl}
 use mathlib.Core.Bool.{false}
-use mathlib.Core.List.{List}
 use Rattle.days.specs.declared.Day.{Day}
-use Rattle.plans.specs.declared.Note.{Note}
-use Rattle.verdicts.specs.declared.Answered.{Answered}
 use Rattle.trust.specs.declared.Points.{Points}
 use Rattle.token.specs.declared.state.Token.{Token}
 use Rattle.status.specs.declared.Intake.{Intake}
 use Rattle.status.specs.declared.Intake.the-variants.{Accepted, Unfit}
 use Rattle.token.specs.declared.state.Personalised.{Personalised}
 use Rattle.token.specs.State.{noToken, madeOf, resetOf}
-use Rattle.token.specs.Step.{stepOf}
+use Rattle.token.specs.Step.{Exchange, stepOf}
 use Rattle.desk_token.specs.declared.Desk.{Desk}
 use Rattle.desk_token.specs.Moves.{emptyDesk, holding, withToken, personalisedBy, personalisedOf, resetDesk, steppedDesk, Made, unmade, made, Stepped, stepped}
 
@@ -35,9 +31,9 @@ module _ (d : Desk) (t : Token) where
   unfolding resetDesk
   reset-there e = rw e
 
-  pub step-there : (s first second : List ℕ) (note : Note) (result : Answered) (size : ℕ) → t ≡ stepOf (d .token) s note result first second size .token → withToken d t ≡ steppedDesk d s note result first second size
+  pub step-there : (x : Exchange) → t ≡ stepOf (d .token) x .token → withToken d t ≡ steppedDesk d x
   unfolding steppedDesk
-  step-there s first second note result size e = rw e
+  step-there x e = rw e
 
 -- ---- what may become of a desk
 
@@ -49,5 +45,5 @@ made-as d r q p today e f = rw (f, e) (go (madeOf p today .made) refl)
     go Accepted h = rw h (made p today h)
     go Unfit h = rw h unmade
 
-pub stepped-as : (d r : Desk) (s first second : List ℕ) (note : Note) (result : Answered) (size : ℕ) → r ≡ steppedDesk d s note result first second size → Stepped d r
-stepped-as d r s first second note result size e = rw e (stepped s first second note result size)
+pub stepped-as : (d r : Desk) (x : Exchange) → r ≡ steppedDesk d x → Stepped d r
+stepped-as d r x e = rw e (stepped x)

@@ -1,18 +1,14 @@
 -- What may be done with what lies on the desk. Assumes nothing: these are definitions.
-use Prim.Native.Nat.{ℕ}
 use mathlib.Core.Path.{_≡_}
 use mathlib.Core.Bool.{true, false}
-use mathlib.Core.List.{List}
 use Rattle.days.specs.declared.Day.{Day}
-use Rattle.plans.specs.declared.Note.{Note}
-use Rattle.verdicts.specs.declared.Answered.{Answered}
 use Rattle.trust.specs.declared.Points.{Points}
 use Rattle.token.specs.declared.state.Token.{Token}
 use Rattle.status.specs.declared.Intake.{Intake}
 use Rattle.status.specs.declared.Intake.the-variants.{Accepted, Unfit}
 use Rattle.token.specs.declared.state.Personalised.{Personalised}
 use Rattle.token.specs.State.{noToken, madeOf, resetOf}
-use Rattle.token.specs.Step.{stepOf}
+use Rattle.token.specs.Step.{Exchange, stepOf}
 use Rattle.desk_token.specs.declared.Desk.{Desk}
 
 -- no token lies there
@@ -38,8 +34,8 @@ personalisedOf d p = personalisedBy (p .made) d (p .token)
 unfoldable pub resetDesk : Desk → Desk
 resetDesk d = withToken d (resetOf (d .token))
 
-unfoldable pub steppedDesk : Desk → List ℕ → Note → Answered → List ℕ → List ℕ → ℕ → Desk
-steppedDesk d s note result first second size = withToken d (stepOf (d .token) s note result first second size .token)
+unfoldable pub steppedDesk : Desk → Exchange → Desk
+steppedDesk d x = withToken d (stepOf (d .token) x .token)
 
 -- a personalisation: a token that one accepts, or as it was
 pub data Made (d : Desk) : Desk → Type 0 where
@@ -49,4 +45,4 @@ pub data Made (d : Desk) : Desk → Type 0 where
 -- a command: its token after one step, or as it was
 pub data Stepped (d : Desk) : Desk → Type 0 where
   unstepped : Stepped d d
-  stepped : (s first second : List ℕ) (note : Note) (result : Answered) (size : ℕ) → Stepped d (steppedDesk d s note result first second size)
+  stepped : (x : Exchange) → Stepped d (steppedDesk d x)

@@ -2,7 +2,7 @@
 ghost use mathlib.Core.Path.{_≡_};
 ghost use lib.ListN.{length};
 ghost use Rattle.buffers.specs.Lay.{Written};
-ghost use Rattle.token.specs.Step.{stepOf};
+ghost use Rattle.token.specs.Step.{exchange, stepOf};
 ghost use Rattle.desk_token.specs.Moves.{emptyDesk, personalisedOf, resetDesk, steppedDesk};
 use plans::Note;
 use status::Intake;
@@ -67,8 +67,8 @@ impl Desk {
         second: &[u8],
         out: &mut [u8],
     ) -> Turn
-        ensures { λ r. ⌜ r .desk ≡ steppedDesk self (now (s .entry)) note result (now (first .entry)) (now (second .entry)) (length (now (out .entry))) ⌝ }
-        ensures { λ r. ⌜ Written (stepOf (self .token) (now (s .entry)) note result (now (first .entry)) (now (second .entry)) (length (now (out .entry))) .bytes) (now (out .entry)) (now (out .exit)) (r .len) ⌝ }
+        ensures { λ r. ⌜ r .desk ≡ steppedDesk self (exchange (now (s .entry)) note result (now (first .entry)) (now (second .entry)) (length (now (out .entry)))) ⌝ }
+        ensures { λ r. ⌜ Written (stepOf (self .token) (exchange (now (s .entry)) note result (now (first .entry)) (now (second .entry)) (length (now (out .entry)))) .bytes) (now (out .entry)) (now (out .exit)) (r .len) ⌝ }
     {
         let token = self.token;
         let r = token.step(s, note, result, first, second, &mut *out);

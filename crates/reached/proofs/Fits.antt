@@ -1,8 +1,8 @@
 -- What an event tells of the token and the command that it comes from: and the one walk down the plan that shows it. Assumes nothing.
 use Prim.Native.Nat.{ℕ, _-_}
 use mathlib.Core.Bool.{Bool, true, false, cond, not, _&&_, _||_}
-use mathlib.Core.Path.{_≡_, refl, subst}
-use mathlib.Core.List.{List}
+use mathlib.Core.Path.{_≡_, refl, sym, ap, subst, subst⁻¹, _∙_}
+use mathlib.Core.List.{List, []}
 use lib.Dec.{eqb, leb}
 use lib.ListN.{length}
 use borrow.Author.Tests.{not-false}
@@ -10,7 +10,7 @@ use Rattle.laws.proofs.Bools.{true-false, and-l, and-7, or-l, of-both}
 use Rattle.names.specs.Names.{sameName}
 use Rattle.certificate.specs.Certificate.{noCertificate, withKey}
 use Rattle.days.specs.Days.{dayFits}
-use Rattle.keys.specs.Keys.{noKey}
+use Rattle.keys.specs.Keys.{noKey, keyIs}
 use Rattle.rights.specs.Rights.{roleOf, readsGroup}
 use Rattle.roles.specs.Roles.{isDv}
 use Rattle.names.specs.declared.Name.{Name}
@@ -21,7 +21,8 @@ use Rattle.roles.specs.declared.Role.the-variants.{Cvca, OfficialDv, OtherDv, T
 use Rattle.command.specs.declared.kind.Kind.{Kind}
 use Rattle.run.specs.declared.Choice.{Choice}
 use Rattle.run.specs.declared.Step.{Step}
-use Rattle.run.specs.Run.{passwordOf, isPin, isPuk, isLast, tries}
+use Rattle.run.specs.declared.Step.the-variants.{Nonce, Map, Agree, Confirm}
+use Rattle.run.specs.Run.{passwordOf, isPin, isPuk, stepNumber, isLast, tries}
 use Rattle.event.specs.declared.Refusal.{Refusal}
 use Rattle.event.specs.declared.Refusal.the-variants.{Lacking, Moment, Data, NotFound, Outside}
 use Rattle.event.specs.declared.Loss.{Loss}
@@ -37,10 +38,9 @@ use Rattle.plans.specs.declared.Job.the-variants.{Step as StepJob, Challenge as
 use Rattle.plans.specs.declared.Ending.{Ending}
 use Rattle.plans.specs.declared.Ending.the-variants.{Settled, Awaits}
 use Rattle.plans.specs.declared.Plan.{Plan}
-use Rattle.verdicts.specs.declared.Answered.{Answered}
 use Rattle.verdicts.specs.declared.Happened.{Happened}
 use Rattle.plans.specs.Plans.{settledBy, awaitsBy, guardOf}
-use Rattle.verdicts.specs.Verdicts.{takenIn, endsBy, passesBy}
+use Rattle.verdicts.specs.Verdicts.{matches, takenIn, endsBy, passesBy}
 use Rattle.verdicts.proofs.Decisions.{decided-all}
 use Rattle.order.specs.Order.{chooseLadder, verifyLadder, unblockLadder}
 use Rattle.outcome.specs.Outcome.{passedEvent, otherEvent, issues, takenEvent}
@@ -71,7 +71,7 @@ use Rattle.token.specs.Limits.{selectable, inLimits}
 use Rattle.checks.specs.Checks.{managesPin, isFor, choosePlan, runPlan, chipPlan, generalPlan, announcePlan, readPlan, changePlan, unblockPlan, activePlan}
 use Rattle.certify.specs.Certify.{selectBy, selectPlan, repeats, late, underEnding, underPlan, verifyPlan}
 use Rattle.token.specs.Plan.{commandOf, timedOf, requestedOf, guarded, planOf}
-use Rattle.token.specs.Step.{happenedOf}
+use Rattle.token.specs.Step.{Exchange, happenedOf}
 
 -- ---- what a token grants to each event
 
@@ -96,35 +96,36 @@ pub data Quiet : Ask → Type 0 where
   challenging : Quiet Challenge
   changing : Quiet ChangePin
 
-pub data Fits (t : Token) (a : Asked) : Event → Certificate → Key → Type 0 where
-  is-refused : {w : Refusal} {p : Certificate} {k : Key} → Fits t a (Refused w) p k
-  is-lost : {l : Loss} {p : Certificate} {k : Key} → Fits t a (Lost l) p k
-  is-chosen : {m : Kind} {ch : Bool} {c : Choice} {p : Certificate} {k : Key} → a .request ≡ Asks m ch (Choose c) → isPin (passwordOf c) && eqb (t .pin) 0 ≡ false → Fits t a (Chosen c (t .pin)) p k
-  is-stepped : {m : Kind} {ch : Bool} {x : Step} {c : Choice} {s : Step} {p : Certificate} {k : Key} → a .request ≡ Asks m ch (General (StepData x)) → contextOf t .stage ≡ Run c s → isLast s ≡ false → Fits t a (StepPassed c s) p k
-  is-opened : {m : Kind} {ch : Bool} {x : Step} {c : Choice} {s : Step} {p : Certificate} {k : Key} → a .request ≡ Asks m ch (General (StepData x)) → contextOf t .stage ≡ Run c s → isLast s ≡ true → Fits t a (IsOpened c) p k
-  is-run-closed : {m : Kind} {ch : Bool} {x : Step} {c : Choice} {s : Step} {p : Certificate} {k : Key} → a .request ≡ Asks m ch (General (StepData x)) → contextOf t .stage ≡ Run c s → Fits t a RunClosed p k
-  is-trial-lost : {m : Kind} {ch : Bool} {x : Step} {c : Choice} {s : Step} {p : Certificate} {k : Key} → a .request ≡ Asks m ch (General (StepData x)) → contextOf t .stage ≡ Run c s → Fits t a (TrialLost (t .pin - 1)) p k
-  is-selected : {m : Kind} {ch : Bool} {i : Issuer} {p : Certificate} {k : Key} → a .request ≡ Asks m ch Select → Selects t i → Fits t a (IsSelected i) p k
+-- the second string is what the chip key is compared with
+pub data Fits (t : Token) (a : Asked) (z : List ℕ) : Event → Certificate → Key → Type 0 where
+  is-refused : {w : Refusal} {p : Certificate} {k : Key} → Fits t a z (Refused w) p k
+  is-lost : {l : Loss} {p : Certificate} {k : Key} → Fits t a z (Lost l) p k
+  is-chosen : {m : Kind} {ch : Bool} {c : Choice} {p : Certificate} {k : Key} → a .request ≡ Asks m ch (Choose c) → isPin (passwordOf c) && eqb (t .pin) 0 ≡ false → Fits t a z (Chosen c (t .pin)) p k
+  is-stepped : {m : Kind} {ch : Bool} {c : Choice} {s : Step} {p : Certificate} {k : Key} → a .request ≡ Asks m ch (General (StepData s)) → contextOf t .stage ≡ Run c s → isLast s ≡ false → Fits t a z (StepPassed c s) p k
+  is-opened : {m : Kind} {ch : Bool} {c : Choice} {s : Step} {p : Certificate} {k : Key} → a .request ≡ Asks m ch (General (StepData s)) → contextOf t .stage ≡ Run c s → isLast s ≡ true → Fits t a z (IsOpened c) p k
+  is-run-closed : {m : Kind} {ch : Bool} {x : Step} {c : Choice} {s : Step} {p : Certificate} {k : Key} → a .request ≡ Asks m ch (General (StepData x)) → contextOf t .stage ≡ Run c s → Fits t a z RunClosed p k
+  is-trial-lost : {m : Kind} {ch : Bool} {x : Step} {c : Choice} {s : Step} {p : Certificate} {k : Key} → a .request ≡ Asks m ch (General (StepData x)) → contextOf t .stage ≡ Run c s → Fits t a z (TrialLost (t .pin - 1)) p k
+  is-selected : {m : Kind} {ch : Bool} {i : Issuer} {p : Certificate} {k : Key} → a .request ≡ Asks m ch Select → Selects t i → Fits t a z (IsSelected i) p k
   is-link-taken : (n : ℕ) {m : Kind} {ch : Bool} {k : Key} → a .request ≡ Asks m ch Verify → certifying t ≡ true → roleOf (a .certificate .rights) ≡ Cvca → knows (t .points) (a .certificate .name) ≡ false
-      → Fits t a LinkTaken (withKey (a .certificate) n) k
+      → Fits t a z LinkTaken (withKey (a .certificate) n) k
   is-dv-taken : (n : ℕ) {m : Kind} {ch : Bool} {h : Certificate} {k : Key} → a .request ≡ Asks m ch Verify → certifying t ≡ true → isDv (roleOf (a .certificate .rights)) ≡ true → knows (t .points) (a .certificate .name) ≡ false
-      → Holds (t .points) h → sameName (a .name) (h .name) ≡ true → Fits t a (DvTaken (h .rights)) (withKey (a .certificate) n) k
+      → Holds (t .points) h → sameName (a .name) (h .name) ≡ true → Fits t a z (DvTaken (h .rights)) (withKey (a .certificate) n) k
   is-terminal-taken : (n : ℕ) {m : Kind} {ch : Bool} {k : Key} → a .request ≡ Asks m ch Verify → certifying t ≡ true → roleOf (a .certificate .rights) ≡ Terminal → hasDv (chainOf t) ≡ true
-      → sameName (a .name) (chainOf t .dv .name) ≡ true → Fits t a TerminalTaken (withKey (a .certificate) n) k
-  is-announced : {m : Kind} {ch : Bool} {p : Certificate} → a .request ≡ Asks m ch Announce → hasTerminal (chainOf t) && unproven (contextOf t .stage) ≡ true → Fits t a IsAnnounced p (a .key)
-  is-challenged : {m : Kind} {ch : Bool} {p : Certificate} {k : Key} → a .request ≡ Asks m ch Challenge → isAnnounced (contextOf t .stage) || isChallenged (contextOf t .stage) ≡ true → Fits t a IsChallenged p k
-  is-proven : {m : Kind} {ch : Bool} {p : Certificate} {k : Key} → a .request ≡ Asks m ch Prove → isChallenged (contextOf t .stage) ≡ true → Fits t a IsProven p k
-  is-proof-lost : {m : Kind} {ch : Bool} {p : Certificate} {k : Key} → a .request ≡ Asks m ch Prove → isChallenged (contextOf t .stage) ≡ true → Fits t a ProofLost p k
-  is-chip-key-chosen : {m : Kind} {ch : Bool} {p : Certificate} {k : Key} → a .request ≡ Asks m ch ChooseChipKey → isProven (contextOf t .stage) || isChosen (contextOf t .stage) ≡ true → Fits t a IsChosen p k
-  is-authenticated : {m : Kind} {ch : Bool} {p : Certificate} {k : Key} → a .request ≡ Asks m ch (General Chip) → contextOf t .stage ≡ ChipKeyChosen → Fits t a IsAuthenticated p k
-  is-chip-lost : {m : Kind} {ch : Bool} {p : Certificate} {k : Key} → a .request ≡ Asks m ch (General Chip) → contextOf t .stage ≡ ChipKeyChosen → Fits t a ChipLost p k
-  not-passed : {m : Kind} {ch : Bool} {x : Ask} {p : Certificate} {k : Key} → a .request ≡ Asks m ch x → Quiet x → Fits t a NotPassed p k
-  is-read : {m : Kind} {ch : Bool} {n : ℕ} {p : Certificate} {k : Key} → a .request ≡ Asks m ch (Read n) → Fits t a ReadAllowed p k
-  is-changed : {m : Kind} {ch : Bool} {p : Certificate} {k : Key} → a .request ≡ Asks m ch ChangePin → Fits t a PinChanged p k
-  is-unblocked-puk : {m : Kind} {ch : Bool} {p : Certificate} {k : Key} → a .request ≡ Asks m ch Unblock → Fits t a UnblockedByPuk p k
-  is-unblocked : {m : Kind} {ch : Bool} {p : Certificate} {k : Key} → a .request ≡ Asks m ch Unblock → Fits t a UnblockedByRight p k
-  is-activated : {m : Kind} {ch : Bool} {p : Certificate} {k : Key} → a .request ≡ Asks m ch Activate → Fits t a Activated p k
-  is-deactivated : {m : Kind} {ch : Bool} {p : Certificate} {k : Key} → a .request ≡ Asks m ch Deactivate → Fits t a Deactivated p k
+      → sameName (a .name) (chainOf t .dv .name) ≡ true → Fits t a z TerminalTaken (withKey (a .certificate) n) k
+  is-announced : {m : Kind} {ch : Bool} {p : Certificate} → a .request ≡ Asks m ch Announce → hasTerminal (chainOf t) && unproven (contextOf t .stage) ≡ true → Fits t a z IsAnnounced p (a .key)
+  is-challenged : {m : Kind} {ch : Bool} {p : Certificate} {k : Key} → a .request ≡ Asks m ch Challenge → isAnnounced (contextOf t .stage) || isChallenged (contextOf t .stage) ≡ true → Fits t a z IsChallenged p k
+  is-proven : {m : Kind} {ch : Bool} {p : Certificate} {k : Key} → a .request ≡ Asks m ch Prove → isChallenged (contextOf t .stage) ≡ true → Fits t a z IsProven p k
+  is-proof-lost : {m : Kind} {ch : Bool} {p : Certificate} {k : Key} → a .request ≡ Asks m ch Prove → isChallenged (contextOf t .stage) ≡ true → Fits t a z ProofLost p k
+  is-chip-key-chosen : {m : Kind} {ch : Bool} {p : Certificate} {k : Key} → a .request ≡ Asks m ch ChooseChipKey → isProven (contextOf t .stage) || isChosen (contextOf t .stage) ≡ true → Fits t a z IsChosen p k
+  is-authenticated : {m : Kind} {ch : Bool} {p : Certificate} {k : Key} → a .request ≡ Asks m ch (General Chip) → contextOf t .stage ≡ ChipKeyChosen → keyIs (contextOf t .key) z ≡ true → Fits t a z IsAuthenticated p k
+  is-chip-lost : {m : Kind} {ch : Bool} {p : Certificate} {k : Key} → a .request ≡ Asks m ch (General Chip) → contextOf t .stage ≡ ChipKeyChosen → Fits t a z ChipLost p k
+  not-passed : {m : Kind} {ch : Bool} {x : Ask} {p : Certificate} {k : Key} → a .request ≡ Asks m ch x → Quiet x → Fits t a z NotPassed p k
+  is-read : {m : Kind} {ch : Bool} {n : ℕ} {p : Certificate} {k : Key} → a .request ≡ Asks m ch (Read n) → Fits t a z ReadAllowed p k
+  is-changed : {m : Kind} {ch : Bool} {p : Certificate} {k : Key} → a .request ≡ Asks m ch ChangePin → Fits t a z PinChanged p k
+  is-unblocked-puk : {m : Kind} {ch : Bool} {p : Certificate} {k : Key} → a .request ≡ Asks m ch Unblock → Fits t a z UnblockedByPuk p k
+  is-unblocked : {m : Kind} {ch : Bool} {p : Certificate} {k : Key} → a .request ≡ Asks m ch Unblock → Fits t a z UnblockedByRight p k
+  is-activated : {m : Kind} {ch : Bool} {p : Certificate} {k : Key} → a .request ≡ Asks m ch Activate → Fits t a z Activated p k
+  is-deactivated : {m : Kind} {ch : Bool} {p : Certificate} {k : Key} → a .request ≡ Asks m ch Deactivate → Fits t a z Deactivated p k
 
 -- ---- a state within its limits, rung by rung
 
@@ -180,30 +181,49 @@ wantsVerdict Deactivated = false
 wantsVerdict NotPassed = false
 
 -- what comes without a verdict needs none
-data Ending·Fits (t : Token) (a : Asked) (p : Certificate) (k : Key) : Ending → Type 0 where
-  at-once : {e : Event} → Fits t a e p k → wantsVerdict e ≡ false → Ending·Fits t a p k (Settled e)
-  in-time : {j : Job} {x y : Event} → ((n : ℕ) → Fits t a x (takenIn j p n) k) → Fits t a y p k → wantsVerdict y ≡ false → Ending·Fits t a p k (Awaits j x y)
+data Ending·Fits (t : Token) (a : Asked) (z : List ℕ) (p : Certificate) (k : Key) : Ending → Type 0 where
+  at-once : {e : Event} → Fits t a z e p k → wantsVerdict e ≡ false → Ending·Fits t a z p k (Settled e)
+  in-time : {j : Job} {x y : Event} → (matches j k z ≡ true → (n : ℕ) → Fits t a z x (takenIn j p n) k) → Fits t a z y p k → wantsVerdict y ≡ false → Ending·Fits t a z p k (Awaits j x y)
 
 -- what an ending gives without a good result
 abbrev pub without : Ending → Event
 without (Settled e) = e
 without (Awaits j x y) = y
 
-modest : {t : Token} {a : Asked} {p : Certificate} {k : Key} {c : Ending} → Ending·Fits t a p k c → wantsVerdict (without c) ≡ false
+modest : {t : Token} {a : Asked} {z : List ℕ} {p : Certificate} {k : Key} {c : Ending} → Ending·Fits t a z p k c → wantsVerdict (without c) ≡ false
 modest (at-once f w) = w
 modest (in-time f g w) = w
 
-abbrev Plan·Fits : Token → Asked → Plan → Type 0
-Plan·Fits t a q = Ending·Fits t a (q .certificate) (q .key) (q .ending)
+abbrev Plan·Fits : Token → Asked → List ℕ → Plan → Type 0
+Plan·Fits t a z q = Ending·Fits t a z (q .certificate) (q .key) (q .ending)
+
+-- steps of one number are one step
+same-step : (p q : Step) → eqb (stepNumber p) (stepNumber q) ≡ true → p ≡ q
+same-step Nonce Nonce e = refl
+same-step Nonce Map e = true-false (sym e)
+same-step Nonce Agree e = true-false (sym e)
+same-step Nonce Confirm e = true-false (sym e)
+same-step Map Nonce e = true-false (sym e)
+same-step Map Map e = refl
+same-step Map Agree e = true-false (sym e)
+same-step Map Confirm e = true-false (sym e)
+same-step Agree Nonce e = true-false (sym e)
+same-step Agree Map e = true-false (sym e)
+same-step Agree Agree e = refl
+same-step Agree Confirm e = true-false (sym e)
+same-step Confirm Nonce e = true-false (sym e)
+same-step Confirm Map e = true-false (sym e)
+same-step Confirm Agree e = true-false (sym e)
+same-step Confirm Confirm e = refl
 
 -- one check of a ladder, with what it tells
 rung : {A : Type 0} (P : A → Type 0) (b : Bool) {x y : A} → (b ≡ true → P x) → (b ≡ false → P y) → P (cond b x y)
 rung P true f g = f refl
 rung P false f g = g refl
 
-module _ (t : Token) (a : Asked) where
+module _ (t : Token) (a : Asked) (z : List ℕ) where
   abbrev Bare : Event → Type 0
-  Bare e = Fits t a e noCertificate noKey
+  Bare e = Fits t a z e noCertificate noKey
 
   abbrev On : Event → Type 0
   On e = Bare e × (wantsVerdict e ≡ false)
@@ -211,14 +231,14 @@ module _ (t : Token) (a : Asked) where
   refused : {w : Refusal} → On (Refused w)
   refused = (is-refused, refl)
 
-  once : (e : Event) → On e → Plan·Fits t a (settledBy e)
+  once : (e : Event) → On e → Plan·Fits t a z (settledBy e)
   unfolding settledBy
   once e f = at-once (f .0) (f .1)
 
-  refuses : (w : Refusal) → Plan·Fits t a (settledBy (Refused w))
+  refuses : (w : Refusal) → Plan·Fits t a z (settledBy (Refused w))
   refuses w = once (Refused w) refused
 
-  waits : (j : Job) (x y : Event) → ((n : ℕ) → Fits t a x (takenIn j noCertificate n) noKey) → On y → Plan·Fits t a (awaitsBy j x y)
+  waits : (j : Job) (x y : Event) → (matches j noKey z ≡ true → (n : ℕ) → Fits t a z x (takenIn j noCertificate n) noKey) → On y → Plan·Fits t a z (awaitsBy j x y)
   unfolding awaitsBy
   waits j x y f g = in-time f (g .0) (g .1)
 
@@ -241,13 +261,13 @@ module _ (t : Token) (a : Asked) where
   choose-ways false false false true c n f = refused
   choose-ways false false false false c n f = f refl
 
-  verify-ways : (m r u l : Bool) (x : Event) → (m ≡ false → r ≡ false → u ≡ false → (n : ℕ) → Fits t a x (withKey (a .certificate) n) noKey) → Fits t a NotPassed (a .certificate) noKey
-      → Ending·Fits t a (a .certificate) noKey (verifyLadder m r u l x)
+  verify-ways : (m r u l : Bool) (x : Event) → (m ≡ false → r ≡ false → u ≡ false → (n : ℕ) → Fits t a z x (withKey (a .certificate) n) noKey) → Fits t a z NotPassed (a .certificate) noKey
+      → Ending·Fits t a z (a .certificate) noKey (verifyLadder m r u l x)
   verify-ways true r u l x f g = at-once is-refused refl
   verify-ways false true u l x f g = at-once is-refused refl
   verify-ways false false true l x f g = at-once is-refused refl
   verify-ways false false false true x f g = at-once is-refused refl
-  verify-ways false false false false x f g = in-time (f refl refl refl) g refl
+  verify-ways false false false false x f g = in-time (λ k. f refl refl refl) g refl
 
   unblock-ways : (p r u f : Bool) → On UnblockedByPuk → On UnblockedByRight → On (unblockLadder p r u f)
   unblock-ways true r true f x y = refused
@@ -257,35 +277,36 @@ module _ (t : Token) (a : Asked) where
   unblock-ways false true u false x y = y
   unblock-ways false false u f x y = refused
 
-  run-chip : (c : Choice) (s : Step) → Plan·Fits t a (runPlan (t .pin) c s Chip)
+  run-chip : (c : Choice) (s : Step) → Plan·Fits t a z (runPlan (t .pin) c s Chip)
   unfolding runPlan
   run-chip c s = refuses Data
 
-  active-fits : (e : Event) → On e → Plan·Fits t a (activePlan (contextOf t) e)
+  active-fits : (e : Event) → On e → Plan·Fits t a z (activePlan (contextOf t) e)
   unfolding activePlan
   active-fits e f = once _ (of-both On (managesPin (contextOf t)) f refused)
 
   module _ {m : Kind} {ch : Bool} where
-    choose-fits : (c : Choice) → a .request ≡ Asks m ch (Choose c) → Plan·Fits t a (choosePlan (t .pin) (t .active) (t .puk) (contextOf t .opened) c)
+    choose-fits : (c : Choice) → a .request ≡ Asks m ch (Choose c) → Plan·Fits t a z (choosePlan (t .pin) (t .active) (t .puk) (contextOf t .opened) c)
     unfolding choosePlan
     choose-fits c q =
         once _
         (choose-ways (isPin (passwordOf c) && eqb (t .pin) 0) (isPin (passwordOf c) && not (t .active)) (isPin (passwordOf c) && eqb (t .pin) 1 && not (openedByCan (contextOf t .opened)))
         (isPuk (passwordOf c) && eqb (t .puk) 0) c (t .pin) (λ e. (is-chosen q e, refl)))
 
-    run-fits : (x : Step) (c : Choice) (s : Step) → a .request ≡ Asks m ch (General (StepData x)) → contextOf t .stage ≡ Run c s → Plan·Fits t a (runPlan (t .pin) c s (StepData x))
+    run-fits : (x : Step) (c : Choice) (s : Step) → a .request ≡ Asks m ch (General (StepData x)) → contextOf t .stage ≡ Run c s → Plan·Fits t a z (runPlan (t .pin) c s (StepData x))
     unfolding runPlan
     run-fits x c s q r =
-        rung (Plan·Fits t a) (not (isFor (StepData x) s)) (λ e. refuses Data)
-        (λ e. waits (StepJob s) (passedEvent c s) (otherEvent c s (t .pin)) (λ n. rung Bare (isLast s) (λ l. is-opened q r l) (λ l. is-stepped q r l))
+        rung (Plan·Fits t a z) (not (isFor (StepData x) s)) (λ e. refuses Data)
+        (λ e. let d = q ∙ ap (λ (y : Step). Asks m ch (General (StepData y))) (same-step x s (not-false (isFor (StepData x) s) e)) in
+        waits (StepJob s) (passedEvent c s) (otherEvent c s (t .pin)) (λ k n. rung Bare (isLast s) (λ l. is-opened d r l) (λ l. is-stepped d r l))
         (of-both On (isLast s) (of-both On (isPin (passwordOf c)) (is-trial-lost q r, refl) (is-run-closed q r, refl)) (is-run-closed q r, refl)))
 
-    chip-fits : (x : Content) → a .request ≡ Asks m ch (General x) → contextOf t .stage ≡ ChipKeyChosen → Plan·Fits t a (chipPlan (contextOf t .key) x)
+    chip-fits : (x : Content) → a .request ≡ Asks m ch (General x) → contextOf t .stage ≡ ChipKeyChosen → Plan·Fits t a z (chipPlan (contextOf t .key) x)
     unfolding chipPlan
     chip-fits (StepData s) q r = refuses Data
-    chip-fits Chip q r = in-time (λ n. is-authenticated q r) (is-chip-lost q r) refl
+    chip-fits Chip q r = in-time (λ k n. is-authenticated q r k) (is-chip-lost q r) refl
 
-    general-fits : (x : Content) (s : Stage) → a .request ≡ Asks m ch (General x) → contextOf t .stage ≡ s → Plan·Fits t a (generalPlan (contextOf t .key) (t .pin) s x)
+    general-fits : (x : Content) (s : Stage) → a .request ≡ Asks m ch (General x) → contextOf t .stage ≡ s → Plan·Fits t a z (generalPlan (contextOf t .key) (t .pin) s x)
     unfolding generalPlan
     general-fits (StepData x) (Run c s) q r = run-fits x c s q r
     general-fits Chip (Run c s) q r = run-chip c s
@@ -296,20 +317,20 @@ module _ (t : Token) (a : Asked) where
     general-fits x Proven q r = refuses Moment
     general-fits x Authenticated q r = refuses Moment
 
-    select-fits : (n : Name) → a .request ≡ Asks m ch Select → Plan·Fits t a (selectPlan (t .points) (chainOf t) n)
+    select-fits : (n : Name) → a .request ≡ Asks m ch Select → Plan·Fits t a z (selectPlan (t .points) (chainOf t) n)
     unfolding selectPlan
     select-fits n q = go (found (t .points) n) refl
       where
-        go : (x : Trusted) → found (t .points) n ≡ x → Plan·Fits t a (selectBy (chainOf t) n x)
+        go : (x : Trusted) → found (t .points) n ≡ x → Plan·Fits t a z (selectBy (chainOf t) n x)
         go (Is i) e = once _ (is-selected q (found-selects n i e), refl)
         go Unknown e =
-            rung (Plan·Fits t a) (hasDv (chainOf t) && sameName n (chainOf t .dv .name)) (λ f. once _ (is-selected q (to-dv (and-l (hasDv (chainOf t)) (sameName n (chainOf t .dv .name)) f)), refl)) (λ f. refuses NotFound)
+            rung (Plan·Fits t a z) (hasDv (chainOf t) && sameName n (chainOf t .dv .name)) (λ f. once _ (is-selected q (to-dv (and-l (hasDv (chainOf t)) (sameName n (chainOf t .dv .name)) f)), refl)) (λ f. refuses NotFound)
 
     -- under each issuer, each role
     module _ (q : a .request ≡ Asks m ch Verify) (c : certifying t ≡ true) where
       taken-fits : (i : Issuer) (o : Role) → roleOf (a .certificate .rights) ≡ o → selectable (Chose i) (t .points .two) (hasDv (chainOf t)) ≡ true → not (issues i o) ≡ false
           → repeats (t .points) (chainOf t .dv) (a .certificate .name) o ≡ false → not (sameName (a .name) (issuerOf (t .points) i (chainOf t .dv) .name)) ≡ false
-          → (n : ℕ) → Fits t a (takenEvent o (issuerOf (t .points) i (chainOf t .dv) .rights)) (withKey (a .certificate) n) noKey
+          → (n : ℕ) → Fits t a z (takenEvent o (issuerOf (t .points) i (chainOf t .dv) .rights)) (withKey (a .certificate) n) noKey
       unfolding repeats
       taken-fits Newest Cvca r s e f g n = is-link-taken n q c r (or-l (knows (t .points) (a .certificate .name)) _ f)
       taken-fits Newest OfficialDv r s e f g n = is-dv-taken n q c (rw r) (or-l (knows (t .points) (a .certificate .name)) _ f) as-newest (not-false _ g)
@@ -324,7 +345,7 @@ module _ (t : Token) (a : Asked) where
       taken-fits Dv OtherDv r s e f g n = true-false e
       taken-fits Dv Terminal r s e f g n = is-terminal-taken n q c r s (not-false _ g)
 
-      under-fits : (i : Issuer) → selectable (Chose i) (t .points .two) (hasDv (chainOf t)) ≡ true → Plan·Fits t a (underPlan (t .points) (chainOf t .dv) (t .today) i (a .name) (a .certificate))
+      under-fits : (i : Issuer) → selectable (Chose i) (t .points .two) (hasDv (chainOf t)) ≡ true → Plan·Fits t a z (underPlan (t .points) (chainOf t .dv) (t .today) i (a .name) (a .certificate))
       unfolding underPlan underEnding
       under-fits i s =
           let o : Role = roleOf (a .certificate .rights) in
@@ -332,30 +353,30 @@ module _ (t : Token) (a : Asked) where
           verify-ways (not (issues i o)) (repeats (t .points) (chainOf t .dv) (a .certificate .name) o) (not (sameName (a .name) (h .name))) (late (t .today) (a .certificate) h o) (takenEvent o (h .rights)) (taken-fits i o refl s)
           (not-passed q verifying)
 
-      verify-fits : (s : Selected) → selectable s (t .points .two) (hasDv (chainOf t)) ≡ true → Plan·Fits t a (verifyPlan (t .points) (chainOf t .dv) (t .today) s (a .name) (a .certificate))
+      verify-fits : (s : Selected) → selectable s (t .points .two) (hasDv (chainOf t)) ≡ true → Plan·Fits t a z (verifyPlan (t .points) (chainOf t .dv) (t .today) s (a .name) (a .certificate))
       unfolding verifyPlan
       verify-fits NoIssuer e = refuses Moment
       verify-fits (Chose i) e = under-fits i e
 
-    announce-fits : a .request ≡ Asks m ch Announce → hasTerminal (chainOf t) && unproven (contextOf t .stage) ≡ true → Plan·Fits t a (announcePlan (chainOf t .terminal .name) (a .name) (a .key))
+    announce-fits : a .request ≡ Asks m ch Announce → hasTerminal (chainOf t) && unproven (contextOf t .stage) ≡ true → Plan·Fits t a z (announcePlan (chainOf t .terminal .name) (a .name) (a .key))
     unfolding announcePlan
-    announce-fits q e = of-both (Plan·Fits t a) (sameName (a .name) (chainOf t .terminal .name)) (at-once (is-announced q e) refl) (refuses NotFound)
+    announce-fits q e = of-both (Plan·Fits t a z) (sameName (a .name) (chainOf t .terminal .name)) (at-once (is-announced q e) refl) (refuses NotFound)
 
-    read-fits : (n : ℕ) → a .request ≡ Asks m ch (Read n) → Plan·Fits t a (readPlan (contextOf t) n)
+    read-fits : (n : ℕ) → a .request ≡ Asks m ch (Read n) → Plan·Fits t a z (readPlan (contextOf t) n)
     unfolding readPlan
     read-fits n q = once _ (of-both On (readsGroup (authorization (contextOf t)) n) (is-read q, refl) refused)
 
-    change-fits : a .request ≡ Asks m ch ChangePin → Plan·Fits t a (changePlan (contextOf t) (t .active))
+    change-fits : a .request ≡ Asks m ch ChangePin → Plan·Fits t a z (changePlan (contextOf t) (t .active))
     unfolding changePlan
     change-fits q =
-        of-both (Plan·Fits t a) ((openedByPin (contextOf t .opened) && t .active) || managesPin (contextOf t)) (waits PinChange PinChanged NotPassed (λ n. is-changed q) (not-passed q changing, refl)) (refuses Lacking)
+        of-both (Plan·Fits t a z) ((openedByPin (contextOf t .opened) && t .active) || managesPin (contextOf t)) (waits PinChange PinChanged NotPassed (λ k n. is-changed q) (not-passed q changing, refl)) (refuses Lacking)
 
-    unblock-fits : a .request ≡ Asks m ch Unblock → Plan·Fits t a (unblockPlan (contextOf t) (t .pin) (t .puk))
+    unblock-fits : a .request ≡ Asks m ch Unblock → Plan·Fits t a z (unblockPlan (contextOf t) (t .pin) (t .puk))
     unfolding unblockPlan
     unblock-fits q = once _ (unblock-ways (openedByPuk (contextOf t .opened)) (managesPin (contextOf t)) (eqb (t .puk) 0) (eqb (t .pin) tries) (is-unblocked-puk q, refl) (is-unblocked q, refl))
 
   -- every ask, at its moment
-  command-fits : {m : Kind} {ch : Bool} {x : Ask} → inLimits t ≡ true → Of m x → a .request ≡ Asks m ch x → momentOf (t .session) m ch ≡ true → Plan·Fits t a (commandOf t a x)
+  command-fits : {m : Kind} {ch : Bool} {x : Ask} → inLimits t ≡ true → Of m x → a .request ≡ Asks m ch x → momentOf (t .session) m ch ≡ true → Plan·Fits t a z (commandOf t a x)
   unfolding commandOf momentOf
   command-fits l of-bad q e = refuses Data
   command-fits l (of-choose {c = c}) q e = choose-fits c q
@@ -363,8 +384,8 @@ module _ (t : Token) (a : Asked) where
   command-fits l of-select q e = select-fits (a .name) q
   command-fits l of-verify q e = verify-fits q (and-l (certifying t) (isSelected (t .session .selected)) e) (t .session .selected) (limits-of t l .chosen)
   command-fits l of-announce q e = announce-fits q e
-  command-fits l of-challenge q e = waits ChallengeJob IsChallenged NotPassed (λ n. is-challenged q e) (not-passed q challenging, refl)
-  command-fits l of-prove q e = waits Proof IsProven ProofLost (λ n. is-proven q e) (is-proof-lost q e, refl)
+  command-fits l of-challenge q e = waits ChallengeJob IsChallenged NotPassed (λ k n. is-challenged q e) (not-passed q challenging, refl)
+  command-fits l of-prove q e = waits Proof IsProven ProofLost (λ k n. is-proven q e) (is-proof-lost q e, refl)
   command-fits l of-chip-key q e = once _ (is-chip-key-chosen q e, refl)
   command-fits l (of-read {n = n}) q e = read-fits n q
   command-fits l of-change-pin q e = change-fits q
@@ -372,53 +393,62 @@ module _ (t : Token) (a : Asked) where
   command-fits l of-activate q e = active-fits Activated (is-activated q, refl)
   command-fits l of-deactivate q e = active-fits Deactivated (is-deactivated q, refl)
 
-  timed-fits : (m : Kind) (ch : Bool) (x : Ask) → inLimits t ≡ true → Of m x → a .request ≡ Asks m ch x → Plan·Fits t a (timedOf t a m ch x)
+  timed-fits : (m : Kind) (ch : Bool) (x : Ask) → inLimits t ≡ true → Of m x → a .request ≡ Asks m ch x → Plan·Fits t a z (timedOf t a m ch x)
   unfolding timedOf
-  timed-fits m ch x l o q = rung (Plan·Fits t a) (not (momentOf (t .session) m ch)) (λ e. refuses Moment) (λ e. command-fits l o q (not-false (momentOf (t .session) m ch) e))
+  timed-fits m ch x l o q = rung (Plan·Fits t a z) (not (momentOf (t .session) m ch)) (λ e. refuses Moment) (λ e. command-fits l o q (not-false (momentOf (t .session) m ch) e))
 
-  guard-fits : (g : Guard) (p : Plan) → Plan·Fits t a p → Plan·Fits t a (guarded g p)
+  guard-fits : (g : Guard) (p : Plan) → Plan·Fits t a z p → Plan·Fits t a z (guarded g p)
   unfolding guarded
   guard-fits (Drops l) p f = once (Lost l) (is-lost, refl)
   guard-fits Passes p f = f
 
-module _ (t : Token) (s : List ℕ) where
-  request-fits : inLimits t ≡ true → (r : Request) → askedOf s .request ≡ r → Plan·Fits t (askedOf s) (requestedOf t (askedOf s) r)
+module _ (t : Token) (s z : List ℕ) where
+  request-fits : inLimits t ≡ true → (r : Request) → askedOf s .request ≡ r → Plan·Fits t (askedOf s) z (requestedOf t (askedOf s) r)
   unfolding requestedOf
-  request-fits l (Faulty w) q = refuses t (askedOf s) w
-  request-fits l (Asks m ch x) q = timed-fits t (askedOf s) m ch x l (kind-of s m ch x q) q
+  request-fits l (Faulty w) q = refuses t (askedOf s) z w
+  request-fits l (Asks m ch x) q = timed-fits t (askedOf s) z m ch x l (kind-of s m ch x q) q
 
-  plan-fits : (note : Note) → Plan·Fits t (askedOf s) (planOf t s note)
+  plan-fits : (note : Note) → Plan·Fits t (askedOf s) z (planOf t s note)
   unfolding planOf
   plan-fits note =
-      rung (Plan·Fits t (askedOf s)) (not (inLimits t)) (λ e. refuses t (askedOf s) Outside)
-      (λ e. guard-fits t (askedOf s) (guardOf note (isOpen (contextOf t .opened))) _ (request-fits (not-false (inLimits t) e) (askedOf s .request) refl))
+      rung (Plan·Fits t (askedOf s) z) (not (inLimits t)) (λ e. refuses t (askedOf s) z Outside)
+      (λ e. guard-fits t (askedOf s) z (guardOf note (isOpen (contextOf t .opened))) _ (request-fits (not-false (inLimits t) e) (askedOf s .request) refl))
 
-  -- no event that wants a verdict comes without a good one
-  pub plan-modest : (note : Note) → wantsVerdict (without (planOf t s note .ending)) ≡ false
-  plan-modest note = modest (plan-fits note)
+-- no event that wants a verdict comes without a good one
+pub plan-modest : (t : Token) (s : List ℕ) (note : Note) → wantsVerdict (without (planOf t s note .ending)) ≡ false
+plan-modest t s note = modest (plan-fits t s [] note)
 
-  -- what happens fits
-  pub fits : (note : Note) (r : Answered) (first second : List ℕ)
-      → Fits t (askedOf s) (happenedOf t s note r first second .event) (happenedOf t s note r first second .certificate) (happenedOf t s note r first second .key)
-  unfolding endsBy passesBy
-  fits note r first second =
-      decided-all (λ (h : Happened). Fits t (askedOf s) (h .event) (h .certificate) (h .key)) q r (length first) second (λ e i. settled i (plan-fits note)) (λ j x y i. otherwise i (plan-fits note))
-      (λ j x y i f n. passed n i (plan-fits note))
-    where
-      q : Plan
-      q = planOf t s note
+-- what happens fits
+pub fits : (t : Token) (x : Exchange) → let h = happenedOf t x in Fits t (askedOf (x .command)) (x .second) (h .event) (h .certificate) (h .key)
+unfolding endsBy passesBy
+fits t x =
+    decided-all (λ (h : Happened). Fits t a z (h .event) (h .certificate) (h .key)) q (x .result) (length (x .first)) z (λ e i. settled i f) (λ j u v i. otherwise i f)
+    (λ j u v i g m n. passed n i m f)
+  where
+    a : Asked
+    a = askedOf (x .command)
 
-      settled : {c : Ending} {e : Event} → c ≡ Settled e → Ending·Fits t (askedOf s) (q .certificate) (q .key) c → Fits t (askedOf s) e (q .certificate) (q .key)
-      settled i (at-once f w) = subst (λ (x : Event). Fits t (askedOf s) x (q .certificate) (q .key)) (cc) f
-      settled i (in-time f g w) = true-false (cc)
+    z : List ℕ
+    z = x .second
 
-      otherwise : {c : Ending} {j : Job} {x y : Event} → c ≡ Awaits j x y → Ending·Fits t (askedOf s) (q .certificate) (q .key) c → Fits t (askedOf s) y (q .certificate) (q .key)
-      otherwise i (at-once f w) = true-false (cc)
-      otherwise i (in-time f g w) = subst (λ (x : Event). Fits t (askedOf s) x (q .certificate) (q .key)) (cc) g
+    q : Plan
+    q = planOf t (x .command) (x .note)
 
-      passed : {c : Ending} {j : Job} {x y : Event} (n : ℕ) → c ≡ Awaits j x y → Ending·Fits t (askedOf s) (q .certificate) (q .key) c → Fits t (askedOf s) x (takenIn j (q .certificate) n) (q .key)
-      passed n i (at-once f w) = true-false (cc)
-      passed {j = j} {x = x} n i (in-time {j = k} {x = z} f g w) =
-          let u : k ≡ j = cc in
-          let v : z ≡ x = cc in
-          subst (λ (m : Job). Fits t (askedOf s) x (takenIn m (q .certificate) n) (q .key)) u (subst (λ (w : Event). Fits t (askedOf s) w (takenIn k (q .certificate) n) (q .key)) v (f n))
+    f : Plan·Fits t a z q
+    f = plan-fits t (x .command) z (x .note)
+
+    settled : {c : Ending} {e : Event} → c ≡ Settled e → Ending·Fits t a z (q .certificate) (q .key) c → Fits t a z e (q .certificate) (q .key)
+    settled i (at-once g w) = subst (λ (y : Event). Fits t a z y (q .certificate) (q .key)) (cc) g
+    settled i (in-time g h w) = true-false (cc)
+
+    otherwise : {c : Ending} {j : Job} {u v : Event} → c ≡ Awaits j u v → Ending·Fits t a z (q .certificate) (q .key) c → Fits t a z v (q .certificate) (q .key)
+    otherwise i (at-once g w) = true-false (cc)
+    otherwise i (in-time g h w) = subst (λ (y : Event). Fits t a z y (q .certificate) (q .key)) (cc) h
+
+    passed : {c : Ending} {j : Job} {u v : Event} (n : ℕ) → c ≡ Awaits j u v → matches j (q .key) z ≡ true → Ending·Fits t a z (q .certificate) (q .key) c → Fits t a z u (takenIn j (q .certificate) n) (q .key)
+    passed n i m (at-once g w) = true-false (cc)
+    passed {j = j} {u = u} n i m (in-time {j = k} {x = y} g h w) =
+        let e : k ≡ j = cc in
+        let d : y ≡ u = cc in
+        subst (λ (l : Job). Fits t a z u (takenIn l (q .certificate) n) (q .key)) e
+        (subst (λ (v : Event). Fits t a z v (takenIn k (q .certificate) n) (q .key)) d (g (subst⁻¹ (λ (l : Job). matches l (q .key) z ≡ true) e m) n))

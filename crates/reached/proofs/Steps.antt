@@ -11,6 +11,8 @@ use Rattle.certificate.specs.declared.Certificate.{Certificate}
 use Rattle.run.specs.declared.Choice.{Choice}
 use Rattle.run.specs.declared.Step.the-variants.{Confirm}
 use Rattle.run.specs.Run.{passwordOf, isPin}
+use Rattle.status.specs.declared.Word.the-variants.{Outside}
+use Rattle.event.specs.Event.{wordOf}
 use Rattle.event.specs.declared.Refusal.{Refusal}
 use Rattle.event.specs.declared.Event.{Event}
 use Rattle.event.specs.declared.Event.the-variants.{Refused}
@@ -35,7 +37,7 @@ use Rattle.reached.proofs.Fits.{wantsVerdict, without, plan-modest}
 use Rattle.token.specs.Plan.{planOf}
 use Rattle.token.specs.After.{trialLost, afterOf}
 use Rattle.answer.specs.Answer.{replyTo}
-use Rattle.token.specs.Step.{Stepped, happenedOf, nextOf, endedBy, stepOf}
+use Rattle.token.specs.Step.{Exchange, exchange, Stepped, happenedOf, nextOf, endedBy, stepOf}
 
 -- ---- a refusal leaves the token as it was
 
@@ -43,17 +45,16 @@ pub refused-same : (t : Token) (w : Refusal) (p : Certificate) (k : Key) → aft
 unfolding afterOf
 refused-same t w p k = refl
 
-pub step-refused : (t : Token) (s : List ℕ) (note : Note) (r : Answered) (first second : List ℕ) (size : ℕ) (w : Refusal)
-    → happenedOf t s note r first second .event ≡ Refused w → stepOf t s note r first second size .token ≡ t
+pub step-refused : (t : Token) (x : Exchange) (w : Refusal) → happenedOf t x .event ≡ Refused w → stepOf t x .token ≡ t
 unfolding stepOf afterOf
-step-refused t s note r first second size w e = go (ltb size room)
+step-refused t x w e = go (ltb (x .size) room)
   where
     h : Happened
-    h = happenedOf t s note r first second
+    h = happenedOf t x
 
-    go : (b : Bool) → cond {A = Stepped} b (record { token = t; bytes = [] }) (endedBy t h first size) .token ≡ t
+    go : (b : Bool) → cond {A = Stepped} b (record { token = t; word = Outside; bytes = [] }) (endedBy t h x) .token ≡ t
     go true = refl
-    go false = ap (λ (x : Event). afterOf t x (h .certificate) (h .key)) e
+    go false = ap (λ (y : Event). afterOf t y (h .certificate) (h .key)) e
 
 -- ---- "where none, the result has no influence": on token, length and every byte
 
@@ -61,24 +62,24 @@ unasked : (p : Plan) (r : Answered) (a : ℕ) (s : List ℕ) → endingJob (p .e
 unfolding endsBy
 unasked p r a s e =
     decided-all (λ (h : Happened). h .answer ≡ 0) p r a s (λ x i. refl) (λ j x y i. refl)
-    (λ j x y i f n. true-false (sym f ∙ ap (λ (k : Job). jobFits k a (length s)) (sym (ap endingJob i) ∙ e)))
+    (λ j x y i f m n. true-false (sym f ∙ ap (λ (k : Job). jobFits k a (length s)) (sym (ap endingJob i) ∙ e)))
 
-pub no-job-no-influence : (t : Token) (s : List ℕ) (note : Note) (r q : Answered) (first second f g : List ℕ) (size : ℕ) → endingJob (planOf t s note .ending) ≡ Nothing
-    → stepOf t s note r first second size ≡ stepOf t s note q f g size
-unfolding stepOf
-no-job-no-influence t s note r q first second f g size e =
-    ap (λ (x : Stepped). cond (ltb size room) (record { token = t; bytes = [] }) x) (none r first second ∙ same ∙ sym (none q f g))
-  where
-    -- with no job nothing of the first string is answered
-    none : (x : Answered) (a b : List ℕ) → endedBy t (happenedOf t s note x a b) a size ≡ endedBy t (happenedOf t s note x a b) [] size
-    none x a b =
-        let z = unasked (planOf t s note) x (length a) b e in
-        let h : Happened = happenedOf t s note x a b in
-        ap (λ (n : ℕ). record { token = nextOf t h; bytes = replyTo (nextOf t h .points) (h .event) (take n a) size }) z
-        ∙ sym (ap (λ (n : ℕ). record { token = nextOf t h; bytes = replyTo (nextOf t h .points) (h .event) (take n []) size }) z)
+module _ (t : Token) (s : List ℕ) (note : Note) (size : ℕ) (e : endingJob (planOf t s note .ending) ≡ Nothing) where
+  -- with no job nothing of the first string is answered
+  unanswered : (r : Answered) (a b : List ℕ) → let h = happenedOf t (exchange s note r a b size) in endedBy t h (exchange s note r a b size) ≡ endedBy t h (exchange s note r [] b size)
+  unanswered r a b =
+      let h : Happened = happenedOf t (exchange s note r a b size) in
+      let reply : ℕ → List ℕ → Stepped = λ n f. record { token = nextOf t h; word = wordOf (h .event); bytes = replyTo (nextOf t h .points) (h .event) (take n f) size } in
+      let z = unasked (planOf t s note) r (length a) b e in
+      ap (λ (n : ℕ). reply n a) z ∙ sym (ap (λ (n : ℕ). reply n []) z)
 
-    same : endedBy t (happenedOf t s note r first second) [] size ≡ endedBy t (happenedOf t s note q f g) [] size
-    same = ap (λ (h : Happened). endedBy t h [] size) (no-influence (planOf t s note) r q (length first) (length f) second g e)
+  pub no-job-no-influence : (r q : Answered) (first second f g : List ℕ) → stepOf t (exchange s note r first second size) ≡ stepOf t (exchange s note q f g size)
+  unfolding stepOf
+  no-job-no-influence r q first second f g =
+      ap (λ (x : Stepped). cond (ltb size room) (record { token = t; word = Outside; bytes = [] }) x)
+      (unanswered r first second
+      ∙ ap (λ (h : Happened). endedBy t h (exchange s note r [] [] size)) (no-influence (planOf t s note) r q (length first) (length f) second g e)
+      ∙ sym (unanswered q f g))
 
 -- ---- what needs a verdict needs a good one
 
@@ -107,24 +108,26 @@ module _ (p : Plan) (r : Answered) (j : Job) (x y : Event) (a : ℕ) (s : List �
       go true g = judged (r .verdict) g
       go false g = refl
 
-module _ (t : Token) where
-  -- "A missing verdict is never a good one": no session opens, no step passes, no certificate is accepted, no terminal proven, no
-  -- chip authenticated and no PIN changed but by a result that is good for the job that was wanted
-  pub earned : (s : List ℕ) (note : Note) (r : Answered) (first second : List ℕ) → wantsVerdict (happenedOf t s note r first second .event) ≡ true
-      → isGood (endingJob (planOf t s note .ending)) r (planOf t s note .key) (length first) second ≡ true
-  unfolding endsBy endingOf
-  earned s note r first second e = go (planOf t s note .ending) refl (plan-modest t s note)
-    where
-      p : Plan
-      p = planOf t s note
+-- "A missing verdict is never a good one": no session opens, no step passes, no certificate is accepted, no terminal proven, no
+-- chip authenticated and no PIN changed but by a result that is good for the job that was wanted
+pub earned : (t : Token) (x : Exchange) → wantsVerdict (happenedOf t x .event) ≡ true
+    → let p = planOf t (x .command) (x .note) in isGood (endingJob (p .ending)) (x .result) (p .key) (length (x .first)) (x .second) ≡ true
+unfolding endsBy endingOf
+earned t x e = go (p .ending) refl (plan-modest t (x .command) (x .note))
+  where
+    p : Plan
+    p = planOf t (x .command) (x .note)
 
-      go : (c : Ending) → p .ending ≡ c → wantsVerdict (without c) ≡ false → isGood (endingJob c) r (p .key) (length first) second ≡ true
-      go (Settled x) q m = true-false (sym (sym (ap (λ (c : Ending). wantsVerdict (endingOf c p r (length first) second .event)) q ∙ m) ∙ e))
-      go (Awaits j x y) q m = test (isGood j r (p .key) (length first) second) refl
-        where
-          test : (b : Bool) → isGood j r (p .key) (length first) second ≡ b → isGood j r (p .key) (length first) second ≡ true
-          test true f = f
-          test false f = true-false (sym (sym (ap (λ (h : Happened). wantsVerdict (h .event)) (decided-bad p r j x y (length first) second q f) ∙ m) ∙ e))
+    good : Job → Bool
+    good j = isGood j (x .result) (p .key) (length (x .first)) (x .second)
+
+    go : (c : Ending) → p .ending ≡ c → wantsVerdict (without c) ≡ false → good (endingJob c) ≡ true
+    go (Settled y) q m = true-false (sym (sym (ap (λ (c : Ending). wantsVerdict (endingOf c p (x .result) (length (x .first)) (x .second) .event)) q ∙ m) ∙ e))
+    go (Awaits j y z) q m = test (good j) refl
+      where
+        test : (b : Bool) → good j ≡ b → good j ≡ true
+        test true f = f
+        test false f = true-false (sym (sym (ap (λ (h : Happened). wantsVerdict (h .event)) (decided-bad p (x .result) j y z (length (x .first)) (x .second) q f) ∙ m) ∙ e))
 
 -- and the event that the fourth step of a PIN's run comes to otherwise leaves the counter one lower
 pub trial-paid : (t : Token) (c : Choice) (p : Certificate) (k : Key) → isPin (passwordOf c) ≡ true → afterOf t (otherEvent c Confirm (t .pin)) p k .pin ≡ t .pin - 1

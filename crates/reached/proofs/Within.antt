@@ -28,8 +28,6 @@ use Rattle.run.specs.declared.Step.the-variants.{Nonce}
 use Rattle.run.specs.Run.{passwordOf, rightsNamed, isPin, isCan, nextStep, tries}
 use Rattle.event.specs.declared.Issuer.{Issuer}
 use Rattle.event.specs.declared.Event.{Event}
-use Rattle.plans.specs.declared.Note.{Note}
-use Rattle.verdicts.specs.declared.Answered.{Answered}
 use Rattle.trust.specs.Trust.{trustPointFits, pointsFit, knows, linked}
 use Rattle.trust.specs.declared.Points.{Points}
 use Rattle.fields.specs.declared.asked.Ask.{Ask}
@@ -58,7 +56,7 @@ use Rattle.token.specs.declared.state.Personalised.{Personalised}
 use Rattle.token.specs.State.{uses, withSession, withPin, withActive, resetOf, startOf, noToken, madeOf, contextOf, chainOf}
 use Rattle.token.specs.Limits.{selectable}
 use Rattle.token.specs.After.{choiceTaken, staged, stepPassed, triesAfter, opened, runClosed, trialLost, issuerSelected, linkTaken, dvTaken, extended, terminalTaken, announced, unblocked, unblockedByPuk, afterOf}
-use Rattle.token.specs.Step.{Stepped, happenedOf, nextOf, stepOf}
+use Rattle.token.specs.Step.{Exchange, Stepped, happenedOf, nextOf, stepOf}
 use Rattle.reply.specs.Reply.{room}
 use Rattle.reached.proofs.Fits.{InLimits, certifying, Holds, as-newest, as-previous, Selects, to-newest, to-previous, to-dv, Fits, is-refused, is-lost, is-chosen, is-stepped, is-opened, is-run-closed, is-trial-lost, is-selected, is-link-taken, is-dv-taken, is-terminal-taken, is-announced, is-challenged, is-proven, is-proof-lost, is-chip-key-chosen, is-authenticated, is-chip-lost, not-passed, is-read, is-changed, is-unblocked-puk, is-unblocked, is-activated, is-deactivated, fits}
 
@@ -366,7 +364,7 @@ module _ (t : Token) (l : InLimits t) where
   from-proof when-proven = refl
   from-proof when-chosen = refl
 
-  pub keep-in : {a : Asked} {e : Event} {p : Certificate} {k : Key} → Sound a → Fits t a e p k → InLimits (afterOf t e p k)
+  pub keep-in : {a : Asked} {z : List ℕ} {e : Event} {p : Certificate} {k : Key} → Sound a → Fits t a z e p k → InLimits (afterOf t e p k)
   unfolding afterOf runClosed
   keep-in s is-refused = l
   keep-in s is-lost = lost
@@ -384,7 +382,7 @@ module _ (t : Token) (l : InLimits t) where
   keep-in s (is-proven q e) = at-later Proven refl (ap fromAnnounced (challenged-is (contextOf t .stage) e))
   keep-in s (is-proof-lost q e) = at-later Announced refl (ap fromAnnounced (challenged-is (contextOf t .stage) e))
   keep-in s (is-chip-key-chosen q e) = at-later ChipKeyChosen refl (from-proof (choosable (contextOf t .stage) e))
-  keep-in s (is-authenticated q e) = at-later Authenticated refl (ap fromAnnounced e)
+  keep-in s (is-authenticated q e f) = at-later Authenticated refl (ap fromAnnounced e)
   keep-in s (is-chip-lost q e) = at-later Proven refl (ap fromAnnounced e)
   keep-in s (not-passed q e) = l
   keep-in s (is-read q) = l
@@ -402,12 +400,12 @@ asked-sound s m ch x q = within-limits s m ch x q
 pub reset-in : (t : Token) → InLimits t → InLimits (resetOf t)
 reset-in t l = lost t l
 
-pub happened-in : (t : Token) (s : List ℕ) (note : Note) (r : Answered) (first second : List ℕ) → InLimits t → InLimits (nextOf t (happenedOf t s note r first second))
-happened-in t s note r first second l = keep-in t l (asked-sound s) (fits t s note r first second)
+pub happened-in : (t : Token) (x : Exchange) → InLimits t → InLimits (nextOf t (happenedOf t x))
+happened-in t x l = keep-in t l (asked-sound (x .command)) (fits t x)
 
-pub step-in : (t : Token) (s : List ℕ) (note : Note) (r : Answered) (first second : List ℕ) (size : ℕ) → InLimits t → InLimits (stepOf t s note r first second size .token)
+pub step-in : (t : Token) (x : Exchange) → InLimits t → InLimits (stepOf t x .token)
 unfolding stepOf
-step-in t s note r first second size l = of-both (λ (z : Stepped). InLimits (z .token)) (ltb size room) l (happened-in t s note r first second l)
+step-in t x l = of-both (λ (z : Stepped). InLimits (z .token)) (ltb (x .size) room) l (happened-in t x l)
 
 pub start-in : (h : Points) (d : Day) → pointsFit h && dayFits d ≡ true → InLimits (startOf h d)
 unfolding startOf noChain noKey

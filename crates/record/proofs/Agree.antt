@@ -1,18 +1,18 @@
 -- The token and the rule agree: an invariant between the token and the rule's own functions, kept by every event.
 -- Assumes nothing.
-use Prim.Native.Nat.{ℕ, suc, _-_}
+use Prim.Native.Nat.{ℕ}
 use mathlib.Core.Bool.{Bool, true, false, cond, not, _&&_, _||_}
 use mathlib.Core.Path.{_≡_, refl, sym, ap, subst, _∙_}
 use mathlib.Core.Option.{Option, none, some}
 use mathlib.Core.List.{List, [], _∷_}
 use borrow.Author.Tests.{not-true}
-use lib.Dec.{leb}
-use Rattle.laws.proofs.Bools.{true-false, and-r, or-then}
+use Rattle.strings.specs.Bytes.{eqbs}
+use Rattle.laws.proofs.Bools.{true-false, and-l, and-r, or-then}
 use Rattle.names.specs.Names.{sameName}
 use Rattle.rights.specs.Rights.{roleOf}
-use Rattle.roles.specs.Roles.{isDv}
+use Rattle.roles.specs.Roles.{isCvca, isDv}
 use Rattle.certificate.specs.Certificate.{noCertificate, withKey}
-use Rattle.keys.specs.Keys.{noKey}
+use Rattle.keys.specs.Keys.{noKey, keyIs}
 use Rattle.names.proofs.Kept.{same-for}
 use Rattle.names.specs.declared.Name.{Name}
 use Rattle.keys.specs.declared.Key.{Key}
@@ -22,7 +22,7 @@ use Rattle.rights.specs.declared.Rights.{Rights}
 use Rattle.roles.specs.declared.Role.{Role}
 use Rattle.roles.specs.declared.Role.the-variants.{Cvca, OfficialDv, OtherDv, Terminal}
 use Rattle.rights.specs.declared.Granted.{Granted}
-use Rattle.rights.specs.declared.Granted.the-variants.{NoRights}
+use Rattle.rights.specs.declared.Granted.the-variants.{These, NoRights}
 use Rattle.run.specs.declared.Password.{Password}
 use Rattle.run.specs.declared.Choice.{Choice}
 use Rattle.run.specs.declared.Step.{Step}
@@ -40,14 +40,16 @@ use Rattle.standing.specs.declared.Chain.{Chain}
 use Rattle.standing.specs.declared.Stage.{Stage}
 use Rattle.standing.specs.declared.Stage.the-variants.{Idle, Run, Announced as AtAnnounced, Challenged as AtChallenged, Proven as AtProven, ChipKeyChosen as AtChosen, Authenticated as AtAuthenticated}
 use Rattle.session.specs.declared.Context.{Context}
-use Rattle.standing.specs.Standing.{reachesDv, hasDv, noChain, fromAnnounced, fromChallenged, fromProven, isAuthenticated}
+use Rattle.standing.specs.Standing.{isOpen, openedByPin, openedByCan, hasRights, reachesDv, hasDv, noChain, unproven, fromAnnounced, fromChallenged, fromProven, isAuthenticated}
 use Rattle.standing.proofs.Stages.{challenged-is, Challengeable, when-announced, when-challenged, challengeable, Choosable, when-proven, when-chosen, choosable}
 use Rattle.session.specs.Session.{bareSession}
 use Rattle.token.specs.declared.state.Token.{Token}
 use Rattle.token.specs.State.{resetOf, startOf, contextOf}
 use Rattle.token.specs.After.{choiceTaken, staged, stepPassed, opened, runClosed, trialLost, issuerSelected, linkTaken, dvTaken, extended, terminalTaken, announced, unblocked, unblockedByPuk, afterOf}
 use Rattle.reached.proofs.Fits.{InLimits, Holds, as-newest, as-previous, Fits, is-refused, is-lost, is-chosen, is-stepped, is-opened, is-run-closed, is-trial-lost, is-selected, is-link-taken, is-dv-taken, is-terminal-taken, is-announced, is-challenged, is-proven, is-proof-lost, is-chip-key-chosen, is-authenticated, is-chip-lost, not-passed, is-read, is-changed, is-unblocked-puk, is-unblocked, is-activated, is-deactivated}
-use Rattle.record.specs.Rule.{Fact, Taken, StepPassed, ChipPassed, Accepted, Announced, Challenged, Proved, ProofFailed, Lost, Nothing, Held, linkedBy, held, rightsIn, lastChoice, steps, naming, named, ruleA, Dv, ChainRights, under, lastDv, ruleB, orElse, dvBy, announcement, challenge, ruleC, ruleD}
+use Rattle.reached.proofs.Within.{context-of}
+use Rattle.record.specs.Facts.{Fact, Taken, StepPassed, Accepted, Announced, Challenged, Proved, ProofFailed, ChipPassed, Lost, Nothing, TrustPoint, Seen, isKey, linkedBy, heldAfter, rightsOf}
+use Rattle.record.specs.Rule.{given, orElse, lastChoice, steps, fourSteps, naming, named, confirmed, Dv, ChainRights, dvBy, lastDv, under, chain, announcedKey, challenged, proven, authenticated}
 use Rattle.record.specs.Claim.{trustPoints}
 use Rattle.record.proofs.Words.{factAt}
 
@@ -68,30 +70,37 @@ chainRightsOf Empty d u = none
 chainRightsOf (ToDv trusted) d u = none
 chainRightsOf (ToTerminal trusted) d u = some (record { trusted = trusted; dv = d .rights; terminal = u .rights })
 
--- the steps passed before this one
-abbrev pub turns : Step → ℕ
-turns s = stepNumber s - 1
+-- from announced on a key stands
+abbrev pub announcedBy : Stage → Key → Option Key
+announcedBy s k = cond (fromAnnounced s) (some k) none
+
+-- the steps passed before this one, newest first
+abbrev pub turns : Step → List ℕ
+turns Nonce = []
+turns Map = stepNumber Nonce ∷ []
+turns Agree = stepNumber Map ∷ stepNumber Nonce ∷ []
+turns Confirm = stepNumber Agree ∷ stepNumber Map ∷ stepNumber Nonce ∷ []
 
 -- in a run the choice is the record's last, and its steps are those passed so far
-abbrev pub Running : Stage → Option Choice → ℕ → Option ChainRights → Type 0
-Running Idle c m b = Unit {0}
-Running (Run c s) o m b = (o ≡ some c) × (m ≡ turns s) × (b ≡ none)
-Running AtAnnounced c m b = Unit {0}
-Running AtChallenged c m b = Unit {0}
-Running AtProven c m b = Unit {0}
-Running AtChosen c m b = Unit {0}
-Running AtAuthenticated c m b = Unit {0}
+abbrev pub Running : Stage → Option Choice → List ℕ → Option ChainRights → Type 0
+Running Idle c l b = Unit {0}
+Running (Run c s) o l b = (o ≡ some c) × (l ≡ turns s) × (b ≡ none)
+Running AtAnnounced c l b = Unit {0}
+Running AtChallenged c l b = Unit {0}
+Running AtProven c l b = Unit {0}
+Running AtChosen c l b = Unit {0}
+Running AtAuthenticated c l b = Unit {0}
 
-pub record Inv (h : Held) (ps : Points) (c : Context) (r : List Fact) : Type 0 where
-  pub points : trustPoints ps ≡ held h r
-  pub rights : confirmedBy (c .opened) (c .confirmed) ≡ ruleA r
-  pub dv : Below (c .chain .reach) (c .chain .dv) (lastDv h r)
-  pub chain : chainRightsOf (c .chain .reach) (c .chain .dv) (c .chain .terminal) ≡ ruleB h r
-  pub ann : fromAnnounced (c .stage) ≡ announcement r
-  pub chal : fromChallenged (c .stage) ≡ challenge r
-  pub prov : fromProven (c .stage) ≡ ruleC r
-  pub auth : isAuthenticated (c .stage) ≡ ruleD r
-  pub run : Running (c .stage) (lastChoice r) (steps r) (ruleB h r)
+pub record Inv (now : List TrustPoint) (ps : Points) (c : Context) (r : List Seen) : Type 0 where
+  pub points : trustPoints ps ≡ now
+  pub rights : confirmedBy (c .opened) (c .confirmed) ≡ confirmed r
+  pub dv : Below (c .chain .reach) (c .chain .dv) (lastDv r)
+  pub terminal : chainRightsOf (c .chain .reach) (c .chain .dv) (c .chain .terminal) ≡ chain r
+  pub key : announcedBy (c .stage) (c .key) ≡ announcedKey r
+  pub chal : fromChallenged (c .stage) ≡ challenged r
+  pub prov : fromProven (c .stage) ≡ proven r
+  pub auth : isAuthenticated (c .stage) ≡ authenticated r
+  pub run : Running (c .stage) (lastChoice r) (steps r) (chain r)
 
 -- ---- small facts
 
@@ -104,7 +113,7 @@ differ ps f two =
     (or-then (ps .two) (trustPointFits (ps .previous) && not (sameName (ps .previous .name) (ps .newest .name)))
     (and-r (trustPointFits (ps .newest)) (not (ps .two) || (trustPointFits (ps .previous) && not (sameName (ps .previous .name) (ps .newest .name)))) f) two))
 
-found : (ps : Points) {p : Certificate} (n : Name) → pointsFit ps ≡ true → Holds ps p → sameName n (p .name) ≡ true → rightsIn (trustPoints ps) n ≡ some (p .rights)
+found : (ps : Points) {p : Certificate} (n : Name) → pointsFit ps ≡ true → Holds ps p → sameName n (p .name) ≡ true → rightsOf (trustPoints ps) n ≡ some (p .rights)
 found ps n f as-newest e = rw e
 found ps n f (as-previous two) e = rw (same-for n (ps .previous .name) (ps .newest .name) e ∙ differ ps f two, two, e)
 
@@ -112,14 +121,30 @@ no-rights : (o : Opened) → confirmedBy o NoRights ≡ none
 no-rights Nobody = refl
 no-rights (By w) = refl
 
--- fewer than four steps
-few : (x : Option (Password × Rights)) (s : Step) {m : ℕ} → m ≡ turns s → cond (leb 4 m) x none ≡ none
-few x Nonce e = ap (λ (k : ℕ). cond (leb 4 k) x none) e
-few x Map e = ap (λ (k : ℕ). cond (leb 4 k) x none) e
-few x Agree e = ap (λ (k : ℕ). cond (leb 4 k) x none) e
-few x Confirm e = ap (λ (k : ℕ). cond (leb 4 k) x none) e
+-- confirmed rights stand in a session that the PIN or the CAN opened
+pub opener-open : (o : Opened) → openedByPin o || openedByCan o ≡ true → isOpen o ≡ true
+opener-open Nobody e = e
+opener-open (By w) e = refl
 
-next : (s : Step) → isLast s ≡ false → suc (turns s) ≡ turns (nextStep s)
+names-some : (o : Opened) (g : Granted) → isOpen o ≡ true → hasRights g ≡ true → given (confirmedBy o g) ≡ true
+names-some Nobody g e f = e
+names-some (By w) (These r) e f = refl
+names-some (By w) NoRights e f = f
+
+confirms : (t : Token) → InLimits t → hasRights (contextOf t .confirmed) ≡ true → given (confirmedBy (contextOf t .opened) (contextOf t .confirmed)) ≡ true
+confirms t l h =
+    let c : Context = contextOf t in
+    names-some (c .opened) (c .confirmed)
+    (opener-open (c .opened) (or-then (hasRights (c .confirmed)) (openedByPin (c .opened) || openedByCan (c .opened)) (context-of c (t .pin) (l .context) .opener) h)) h
+
+-- fewer than four steps
+few : (x : Option (Password × Rights)) (s : Step) {l : List ℕ} → l ≡ turns s → cond (eqbs l fourSteps) x none ≡ none
+few x Nonce e = ap (λ (k : List ℕ). cond (eqbs k fourSteps) x none) e
+few x Map e = ap (λ (k : List ℕ). cond (eqbs k fourSteps) x none) e
+few x Agree e = ap (λ (k : List ℕ). cond (eqbs k fourSteps) x none) e
+few x Confirm e = ap (λ (k : List ℕ). cond (eqbs k fourSteps) x none) e
+
+next : (s : Step) → isLast s ≡ false → stepNumber s ∷ turns s ≡ turns (nextStep s)
 next Nonce e = refl
 next Map e = refl
 next Agree e = refl
@@ -131,41 +156,45 @@ at c s = record { opened = c .opened; confirmed = c .confirmed; chain = c .chain
 
 -- ---- every event keeps it
 
-module _ {h : Held} {ps : Points} {r : List Fact} where
+-- the line with one fact more, and the trust points held then
+abbrev pub more : List TrustPoint → Fact → List Seen → List Seen
+more now f r = record { fact = f; points = now } ∷ r
+
+module _ {now : List TrustPoint} {ps : Points} {r : List Seen} where
   -- the invariant where the stage is known
-  known : (c : Context) {s : Stage} → c .stage ≡ s → Inv h ps c r → Inv h ps (at c s) r
-  known c e i = subst (λ (s : Stage). Inv h ps (at c s) r) e i
+  known : (c : Context) {s : Stage} → c .stage ≡ s → Inv now ps c r → Inv now ps (at c s) r
+  known c e i = subst (λ (s : Stage). Inv now ps (at c s) r) e i
 
   -- nothing that counts
-  pub quiet : {c : Context} → Inv h ps c r → Inv h ps c (Nothing ∷ r)
-  quiet i = record { points = i .points; rights = i .rights; dv = i .dv; chain = i .chain; ann = i .ann; chal = i .chal; prov = i .prov; auth = i .auth; run = i .run }
+  pub quiet : {c : Context} → Inv now ps c r → Inv now ps c (more now Nothing r)
+  quiet i = record { points = i .points; rights = i .rights; dv = i .dv; terminal = i .terminal; key = i .key; chal = i .chal; prov = i .prov; auth = i .auth; run = i .run }
 
-  lost : {c : Context} → Inv h ps c r → Inv h ps (bareSession Nobody NoRights Idle .context) (Lost ∷ r)
+  lost : {c : Context} → Inv now ps c r → Inv now ps (bareSession Nobody NoRights Idle .context) (more now Lost r)
   unfolding noChain
-  lost i = record { points = i .points; rights = refl; dv = tt; chain = refl; ann = refl; chal = refl; prov = refl; auth = refl; run = tt }
+  lost i = record { points = i .points; rights = refl; dv = tt; terminal = refl; key = refl; chal = refl; prov = refl; auth = refl; run = tt }
 
-  taken : (o : Opened) (d : Choice) {c : Context} → Inv h ps c r → Inv h ps (bareSession o NoRights (Run d Nonce) .context) (Taken d ∷ r)
+  taken : (o : Opened) (d : Choice) {c : Context} → Inv now ps c r → Inv now ps (bareSession o NoRights (Run d Nonce) .context) (more now (Taken d) r)
   unfolding noChain
-  taken o d i = record { points = i .points; rights = no-rights o; dv = tt; chain = refl; ann = refl; chal = refl; prov = refl; auth = refl; run = (refl, refl, refl) }
+  taken o d i = record { points = i .points; rights = no-rights o; dv = tt; terminal = refl; key = refl; chal = refl; prov = refl; auth = refl; run = (refl, refl, refl) }
 
   module _ (c : Context) (d : Choice) where
     -- another step is passed, and not the last
-    stepped : (s : Step) → isLast s ≡ false → Inv h ps (at c (Run d s)) r → Inv h ps (at c (Run d (nextStep s))) (StepPassed ∷ r)
+    stepped : (s : Step) → isLast s ≡ false → Inv now ps (at c (Run d s)) r → Inv now ps (at c (Run d (nextStep s))) (more now (StepPassed s) r)
     stepped s e i =
-        let n : suc (steps r) ≡ turns (nextStep s) = ap suc (i .run .1) ∙ next s e in
+        let n : stepNumber s ∷ steps r ≡ turns (nextStep s) = ap (λ (l : List ℕ). stepNumber s ∷ l) (i .run .1) ∙ next s e in
         record {
           points = i .points;
           rights = i .rights ∙ few (named (lastChoice r)) s (i .run .1) ∙ sym (few (named (lastChoice r)) (nextStep s) n);
           dv = i .dv;
-          chain = i .chain;
-          ann = i .ann;
+          terminal = i .terminal;
+          key = i .key;
           chal = i .chal;
           prov = i .prov;
           auth = i .auth;
           run = (i .run .0, n, i .run .2);
         }
 
-    open-now : (s : Step) → isLast s ≡ true → Inv h ps (at c (Run d s)) r → Inv h ps (bareSession (By (passwordOf d)) (rightsNamed d) Idle .context) (StepPassed ∷ r)
+    open-now : (s : Step) → isLast s ≡ true → Inv now ps (at c (Run d s)) r → Inv now ps (bareSession (By (passwordOf d)) (rightsNamed d) Idle .context) (more now (StepPassed Confirm) r)
     unfolding noChain
     open-now Nonce e i = true-false (sym e)
     open-now Map e i = true-false (sym e)
@@ -173,116 +202,129 @@ module _ {h : Held} {ps : Points} {r : List Fact} where
     open-now Confirm e i =
         record {
           points = i .points;
-          rights = sym (ap (λ (m : ℕ). cond (leb 4 (suc m)) (named (lastChoice r)) none) (i .run .1) ∙ ap named (i .run .0));
+          rights = sym (ap (λ (l : List ℕ). cond (eqbs (stepNumber Confirm ∷ l) fourSteps) (named (lastChoice r)) none) (i .run .1) ∙ ap named (i .run .0));
           dv = tt;
-          chain = sym (i .run .2);
-          ann = i .ann;
+          terminal = sym (i .run .2);
+          key = i .key;
           chal = i .chal;
           prov = i .prov;
           auth = i .auth;
           run = tt;
         }
 
-    closed : (o : Opened) (s : Step) → Inv h ps (at c (Run d s)) r → Inv h ps (bareSession o NoRights Idle .context) (Nothing ∷ r)
+    closed : (o : Opened) (s : Step) → Inv now ps (at c (Run d s)) r → Inv now ps (bareSession o NoRights Idle .context) (more now Nothing r)
     unfolding noChain
     closed o s i =
-        record { points = i .points; rights = no-rights o ∙ sym (few (named (lastChoice r)) s (i .run .1)); dv = tt; chain = sym (i .run .2); ann = i .ann; chal = i .chal; prov = i .prov; auth = i .auth; run = tt }
+        record { points = i .points; rights = no-rights o ∙ sym (few (named (lastChoice r)) s (i .run .1)); dv = tt; terminal = sym (i .run .2); key = i .key; chal = i .chal; prov = i .prov; auth = i .auth; run = tt }
 
-  module _ (c : Context) (n : Name) (p : Certificate) (i : Inv h ps c r) where
+  module _ (c : Context) (n : Name) (p : Certificate) (i : Inv now ps c r) where
     -- a chain, where the certificate tells of points, DV and terminal
-    accepted : (qs : Points) (d : Chain) → trustPoints qs ≡ held h (Accepted n p ∷ r) → Below (d .reach) (d .dv) (lastDv h (Accepted n p ∷ r)) → chainRightsOf (d .reach) (d .dv) (d .terminal) ≡ ruleB h (Accepted n p ∷ r)
-        → Inv h qs (record { opened = c .opened; confirmed = c .confirmed; chain = d; stage = Idle; key = noKey }) (Accepted n p ∷ r)
-    accepted qs d e f g = record { points = e; rights = i .rights; dv = f; chain = g; ann = refl; chal = refl; prov = refl; auth = refl; run = tt }
+    accepted : (qs : Points) (d : Chain) → trustPoints qs ≡ heldAfter now (Accepted n p) → Below (d .reach) (d .dv) (lastDv (more now (Accepted n p) r))
+        → chainRightsOf (d .reach) (d .dv) (d .terminal) ≡ chain (more now (Accepted n p) r)
+        → Inv (heldAfter now (Accepted n p)) qs (record { opened = c .opened; confirmed = c .confirmed; chain = d; stage = Idle; key = noKey }) (more now (Accepted n p) r)
+    accepted qs d e f g = record { points = e; rights = i .rights; dv = f; terminal = g; key = refl; chal = refl; prov = refl; auth = refl; run = tt }
 
-    -- what each role leaves of the points, and of a terminal
-    held-by : (o : Role) → roleOf (p .rights) ≡ o → held h (Accepted n p ∷ r) ≡ linkedBy (trustPoints ps) p o
-    held-by o e = ap (λ (x : Role). linkedBy (held h r) p x) e ∙ ap (λ (x : Held). linkedBy x p o) (sym (i .points))
+    -- what each role leaves of the points, of the DV and of a terminal
+    held-by : (o : Role) → roleOf (p .rights) ≡ o → heldAfter now (Accepted n p) ≡ linkedBy (trustPoints ps) p o
+    held-by o e = ap (λ (x : Role). linkedBy now p x) e ∙ ap (λ (x : List TrustPoint). linkedBy x p o) (sym (i .points))
 
-    none-under : (o : Role) → roleOf (p .rights) ≡ o → under (lastDv h r) n p o ≡ none → none ≡ ruleB h (Accepted n p ∷ r)
-    none-under o e f = sym (ap (λ (x : Role). orElse (under (lastDv h r) n p x) none) e ∙ ap (λ (x : Option ChainRights). orElse x none) f)
+    dv-at : (o : Role) → roleOf (p .rights) ≡ o → lastDv (more now (Accepted n p) r) ≡ orElse (dvBy (given (confirmed r)) (trustPoints ps) n p o) (cond (isCvca o) none (lastDv r))
+    dv-at o e =
+        ap (λ (x : Role). orElse (dvBy (given (confirmed r)) now n p x) (cond (isCvca x) none (lastDv r))) e
+        ∙ ap (λ (x : List TrustPoint). orElse (dvBy (given (confirmed r)) x n p o) (cond (isCvca o) none (lastDv r))) (sym (i .points))
 
-    linked-now : (k : ℕ) → roleOf (p .rights) ≡ Cvca → Inv h (linked ps (withKey p k)) (record { opened = c .opened; confirmed = c .confirmed; chain = noChain; stage = Idle; key = noKey }) (Accepted n p ∷ r)
+    none-under : (o : Role) → roleOf (p .rights) ≡ o → under (lastDv r) n p o ≡ none → none ≡ chain (more now (Accepted n p) r)
+    none-under o e f = sym (ap (λ (x : Role). orElse (under (lastDv r) n p x) none) e ∙ ap (λ (x : Option ChainRights). orElse x none) f)
+
+    linked-now : (k : ℕ) → roleOf (p .rights) ≡ Cvca
+        → Inv (heldAfter now (Accepted n p)) (linked ps (withKey p k)) (record { opened = c .opened; confirmed = c .confirmed; chain = noChain; stage = Idle; key = noKey }) (more now (Accepted n p) r)
     unfolding noChain linked withKey
     linked-now k e = accepted (linked ps (withKey p k)) noChain (sym (held-by Cvca e)) tt (none-under Cvca e refl)
 
-    dv-at : (o : Role) → roleOf (p .rights) ≡ o → lastDv h (Accepted n p ∷ r) ≡ orElse (dvBy (trustPoints ps) n p o) (lastDv h r)
-    dv-at o e = ap (λ (x : Role). orElse (dvBy (held h r) n p x) (lastDv h r)) e ∙ ap (λ (x : Held). orElse (dvBy x n p o) (lastDv h r)) (sym (i .points))
-
-    deputed-now : {q : Certificate} (k : ℕ) → pointsFit ps ≡ true → isDv (roleOf (p .rights)) ≡ true → Holds ps q → sameName n (q .name) ≡ true
-        → Inv h ps (record { opened = c .opened; confirmed = c .confirmed; chain = record { reach = ToDv (q .rights); dv = withKey p k; terminal = noCertificate }; stage = Idle; key = noKey }) (Accepted n p ∷ r)
+    -- a DV counts, since rights were confirmed before it
+    deputed-now : {q : Certificate} (k : ℕ) → pointsFit ps ≡ true → given (confirmedBy (c .opened) (c .confirmed)) ≡ true → isDv (roleOf (p .rights)) ≡ true → Holds ps q → sameName n (q .name) ≡ true
+        → Inv (heldAfter now (Accepted n p)) ps (record { opened = c .opened; confirmed = c .confirmed; chain = record { reach = ToDv (q .rights); dv = withKey p k; terminal = noCertificate }; stage = Idle; key = noKey }) (more now (Accepted n p) r)
     unfolding withKey
-    deputed-now {q} k f e g s = go (roleOf (p .rights)) refl e
+    deputed-now {q} k f a e g s = go (roleOf (p .rights)) refl e
       where
-        at-dv : Option Rights → Option Dv
-        at-dv x = some (record { trusted = x; name = p .name; rights = p .rights })
+        dv-of : Option Rights → Option Dv
+        dv-of x = some (record { trusted = x; name = p .name; rights = p .rights })
+
+        counts : (o : Role) → roleOf (p .rights) ≡ o → isDv o ≡ true → isCvca o ≡ false → lastDv (more now (Accepted n p) r) ≡ dv-of (some (q .rights))
+        counts o d z v =
+            dv-at o d
+            ∙ rw (z, v, ap given (sym (i .rights)) ∙ a) (ap dv-of (found ps n f g s))
 
         go : (o : Role) → roleOf (p .rights) ≡ o → isDv o ≡ true
-            → Inv h ps (record { opened = c .opened; confirmed = c .confirmed; chain = record { reach = ToDv (q .rights); dv = withKey p k; terminal = noCertificate }; stage = Idle; key = noKey }) (Accepted n p ∷ r)
+            → Inv (heldAfter now (Accepted n p)) ps (record { opened = c .opened; confirmed = c .confirmed; chain = record { reach = ToDv (q .rights); dv = withKey p k; terminal = noCertificate }; stage = Idle; key = noKey }) (more now (Accepted n p) r)
         go Cvca d z = true-false (sym z)
-        go OfficialDv d z = accepted ps _ (sym (held-by OfficialDv d)) (dv-at OfficialDv d ∙ ap at-dv (found ps n f g s)) (none-under OfficialDv d refl)
-        go OtherDv d z = accepted ps _ (sym (held-by OtherDv d)) (dv-at OtherDv d ∙ ap at-dv (found ps n f g s)) (none-under OtherDv d refl)
+        go OfficialDv d z = accepted ps _ (sym (held-by OfficialDv d)) (counts OfficialDv d refl refl) (none-under OfficialDv d refl)
+        go OtherDv d z = accepted ps _ (sym (held-by OtherDv d)) (counts OtherDv d refl refl) (none-under OtherDv d refl)
         go Terminal d z = true-false (sym z)
 
     completed-now : (k : ℕ) → roleOf (p .rights) ≡ Terminal → hasDv (c .chain) ≡ true → sameName n (c .chain .dv .name) ≡ true
-        → Inv h ps (record { opened = c .opened; confirmed = c .confirmed; chain = record { reach = extended (c .chain .reach); dv = c .chain .dv; terminal = withKey p k }; stage = Idle; key = noKey }) (Accepted n p ∷ r)
+        → Inv (heldAfter now (Accepted n p)) ps (record { opened = c .opened; confirmed = c .confirmed; chain = record { reach = extended (c .chain .reach); dv = c .chain .dv; terminal = withKey p k }; stage = Idle; key = noKey }) (more now (Accepted n p) r)
     unfolding withKey
     completed-now k e f s = go (c .chain .reach) f (i .dv)
       where
-        under-dv : (trusted : Rights) → lastDv h r ≡ some (record { trusted = some trusted; name = c .chain .dv .name; rights = c .chain .dv .rights })
-            → ruleB h (Accepted n p ∷ r) ≡ some (record { trusted = trusted; dv = c .chain .dv .rights; terminal = p .rights })
+        under-dv : (trusted : Rights) → lastDv r ≡ some (record { trusted = some trusted; name = c .chain .dv .name; rights = c .chain .dv .rights })
+            → chain (more now (Accepted n p) r) ≡ some (record { trusted = trusted; dv = c .chain .dv .rights; terminal = p .rights })
         under-dv trusted d =
-            ap (λ (x : Role). orElse (under (lastDv h r) n p x) none) e ∙ ap (λ (x : Option Dv). orElse (under x n p Terminal) none) d
+            ap (λ (x : Role). orElse (under (lastDv r) n p x) none) e ∙ ap (λ (x : Option Dv). orElse (under x n p Terminal) none) d
             ∙ ap (λ (b : Bool). orElse (cond b (some (record { trusted = trusted; dv = c .chain .dv .rights; terminal = p .rights })) none) none) s
 
-        with-trusted : (trusted : Rights) → lastDv h r ≡ some (record { trusted = some trusted; name = c .chain .dv .name; rights = c .chain .dv .rights })
-            → Inv h ps (record { opened = c .opened; confirmed = c .confirmed; chain = record { reach = ToTerminal trusted; dv = c .chain .dv; terminal = withKey p k }; stage = Idle; key = noKey }) (Accepted n p ∷ r)
+        with-trusted : (trusted : Rights) → lastDv r ≡ some (record { trusted = some trusted; name = c .chain .dv .name; rights = c .chain .dv .rights })
+            → Inv (heldAfter now (Accepted n p)) ps (record { opened = c .opened; confirmed = c .confirmed; chain = record { reach = ToTerminal trusted; dv = c .chain .dv; terminal = withKey p k }; stage = Idle; key = noKey }) (more now (Accepted n p) r)
         with-trusted trusted d = accepted ps _ (sym (held-by Terminal e)) (dv-at Terminal e ∙ d) (sym (under-dv trusted d))
 
-        go : (x : Reach) → reachesDv x ≡ true → Below x (c .chain .dv) (lastDv h r)
-            → Inv h ps (record { opened = c .opened; confirmed = c .confirmed; chain = record { reach = extended x; dv = c .chain .dv; terminal = withKey p k }; stage = Idle; key = noKey }) (Accepted n p ∷ r)
+        go : (x : Reach) → reachesDv x ≡ true → Below x (c .chain .dv) (lastDv r)
+            → Inv (heldAfter now (Accepted n p)) ps (record { opened = c .opened; confirmed = c .confirmed; chain = record { reach = extended x; dv = c .chain .dv; terminal = withKey p k }; stage = Idle; key = noKey }) (more now (Accepted n p) r)
         go Empty z d = true-false (sym z)
         go (ToDv trusted) z d = with-trusted trusted d
         go (ToTerminal trusted) z d = with-trusted trusted d
 
-  announced-now : (c : Context) (k : Key) → Inv h ps c r
-      → Inv h ps (record { opened = c .opened; confirmed = c .confirmed; chain = c .chain; stage = AtAnnounced; key = k }) (Announced ∷ r)
+  announced-now : (c : Context) (k : Key) → Inv now ps c r
+      → Inv now ps (record { opened = c .opened; confirmed = c .confirmed; chain = c .chain; stage = AtAnnounced; key = k }) (more now (Announced k) r)
   announced-now c k i =
-      record { points = i .points; rights = i .rights; dv = i .dv; chain = i .chain; ann = refl; chal = refl; prov = refl; auth = refl; run = tt }
+      record { points = i .points; rights = i .rights; dv = i .dv; terminal = i .terminal; key = refl; chal = refl; prov = refl; auth = refl; run = tt }
 
-  challenged-now : (c : Context) {s : Stage} → Challengeable s → Inv h ps (at c s) r → Inv h ps (at c AtChallenged) (Challenged ∷ r)
+  challenged-now : (c : Context) {s : Stage} → Challengeable s → Inv now ps (at c s) r → Inv now ps (at c AtChallenged) (more now Challenged r)
   challenged-now c when-announced i =
-      let a : announcement r ≡ true = sym (i .ann) in
-      record { points = i .points; rights = i .rights; dv = i .dv; chain = i .chain; ann = i .ann; chal = rw a; prov = i .prov; auth = i .auth; run = tt }
+      let a : given (announcedKey r) ≡ true = ap given (sym (i .key)) in
+      record { points = i .points; rights = i .rights; dv = i .dv; terminal = i .terminal; key = i .key; chal = rw a; prov = i .prov; auth = i .auth; run = tt }
   challenged-now c when-challenged i =
-      let a : announcement r ≡ true = sym (i .ann) in
-      record { points = i .points; rights = i .rights; dv = i .dv; chain = i .chain; ann = i .ann; chal = rw a; prov = i .prov; auth = i .auth; run = tt }
+      let a : given (announcedKey r) ≡ true = ap given (sym (i .key)) in
+      record { points = i .points; rights = i .rights; dv = i .dv; terminal = i .terminal; key = i .key; chal = rw a; prov = i .prov; auth = i .auth; run = tt }
 
-  proved-now : (c : Context) → Inv h ps (at c AtChallenged) r → Inv h ps (at c AtProven) (Proved ∷ r)
+  proved-now : (c : Context) → Inv now ps (at c AtChallenged) r → Inv now ps (at c AtProven) (more now Proved r)
   proved-now c i =
-      let a : challenge r ≡ true = sym (i .chal) in
-      record { points = i .points; rights = i .rights; dv = i .dv; chain = i .chain; ann = i .ann; chal = i .chal; prov = rw a; auth = i .auth; run = tt }
+      let a : challenged r ≡ true = sym (i .chal) in
+      record { points = i .points; rights = i .rights; dv = i .dv; terminal = i .terminal; key = i .key; chal = i .chal; prov = rw a; auth = i .auth; run = tt }
 
-  disproved-now : (c : Context) → Inv h ps (at c AtChallenged) r → Inv h ps (at c AtAnnounced) (ProofFailed ∷ r)
-  disproved-now c i = record { points = i .points; rights = i .rights; dv = i .dv; chain = i .chain; ann = i .ann; chal = refl; prov = refl; auth = refl; run = tt }
+  disproved-now : (c : Context) → Inv now ps (at c AtChallenged) r → Inv now ps (at c AtAnnounced) (more now ProofFailed r)
+  disproved-now c i = record { points = i .points; rights = i .rights; dv = i .dv; terminal = i .terminal; key = i .key; chal = refl; prov = refl; auth = refl; run = tt }
 
   -- a chip key may be chosen, and chosen again: nothing of the rule changes
-  chip-now : (c : Context) {s : Stage} → Choosable s → Inv h ps (at c s) r → Inv h ps (at c AtChosen) (Nothing ∷ r)
-  chip-now c when-proven i = record { points = i .points; rights = i .rights; dv = i .dv; chain = i .chain; ann = i .ann; chal = i .chal; prov = i .prov; auth = i .auth; run = tt }
+  chip-now : (c : Context) {s : Stage} → Choosable s → Inv now ps (at c s) r → Inv now ps (at c AtChosen) (more now Nothing r)
+  chip-now c when-proven i = record { points = i .points; rights = i .rights; dv = i .dv; terminal = i .terminal; key = i .key; chal = i .chal; prov = i .prov; auth = i .auth; run = tt }
   chip-now c when-chosen i = quiet i
 
-  authenticated-now : (c : Context) → Inv h ps (at c AtChosen) r → Inv h ps (at c AtAuthenticated) (ChipPassed ∷ r)
-  authenticated-now c i =
-      let a : ruleC r ≡ true = sym (i .prov) in
-      record { points = i .points; rights = i .rights; dv = i .dv; chain = i .chain; ann = i .ann; chal = i .chal; prov = i .prov; auth = rw a; run = tt }
+  -- the key that the crypto unit answered is the announced one
+  authenticated-now : (c : Context) (z : List ℕ) → keyIs (c .key) z ≡ true → Inv now ps (at c AtChosen) r → Inv now ps (at c AtAuthenticated) (more now (ChipPassed z) r)
+  authenticated-now c z m i =
+      let a : proven r ≡ true = sym (i .prov) in
+      let k : isKey (announcedKey r) z ≡ true = ap (λ (y : Option Key). isKey y z) (sym (i .key)) ∙ m in
+      record { points = i .points; rights = i .rights; dv = i .dv; terminal = i .terminal; key = i .key; chal = i .chal; prov = i .prov; auth = rw (k, a); run = tt }
 
-  chip-lost-now : (c : Context) → Inv h ps (at c AtChosen) r → Inv h ps (at c AtProven) (Nothing ∷ r)
-  chip-lost-now c i = record { points = i .points; rights = i .rights; dv = i .dv; chain = i .chain; ann = i .ann; chal = i .chal; prov = i .prov; auth = i .auth; run = tt }
+  chip-lost-now : (c : Context) → Inv now ps (at c AtChosen) r → Inv now ps (at c AtProven) (more now Nothing r)
+  chip-lost-now c i = record { points = i .points; rights = i .rights; dv = i .dv; terminal = i .terminal; key = i .key; chal = i .chal; prov = i .prov; auth = i .auth; run = tt }
 
 -- one event
-abbrev pub Agrees : Held → Token → List Fact → Type 0
-Agrees h t r = Inv h (t .points) (contextOf t) r
+abbrev pub Agrees : List TrustPoint → Token → List Seen → Type 0
+Agrees now t r = Inv now (t .points) (contextOf t) r
 
-pub keep : {h : Held} (t : Token) {r : List Fact} {a : Asked} {e : Event} {p : Certificate} {k : Key} → InLimits t → Fits t a e p k → Agrees h t r → Agrees h (afterOf t e p k) (factAt a e ∷ r)
+pub keep : {now : List TrustPoint} (t : Token) {r : List Seen} {a : Asked} {z : List ℕ} {e : Event} {p : Certificate} {k : Key} → InLimits t → Fits t a z e p k → Agrees now t r
+    → Agrees (heldAfter now (factAt a z e)) (afterOf t e p k) (more now (factAt a z e) r)
 unfolding afterOf resetOf choiceTaken staged stepPassed opened runClosed trialLost issuerSelected linkTaken dvTaken terminalTaken announced unblocked unblockedByPuk
 keep t l is-refused i = quiet i
 keep t l is-lost i = lost i
@@ -293,14 +335,14 @@ keep t l (is-run-closed {c = c} {s = s} q e) i = closed (contextOf t) c (context
 keep t l (is-trial-lost {c = c} {s = s} q e) i = closed (contextOf t) c (contextOf t .opened) s (known (contextOf t) e i)
 keep t l (is-selected q e) i = quiet i
 keep t {a = a} l (is-link-taken n q c r k) i = linked-now (contextOf t) (a .name) (a .certificate) i n r
-keep t {a = a} l (is-dv-taken n q c r k h e) i = deputed-now (contextOf t) (a .name) (a .certificate) i n (l .points) r h e
+keep t {a = a} l (is-dv-taken n q c r k h e) i = deputed-now (contextOf t) (a .name) (a .certificate) i n (l .points) (confirms t l (and-l (hasRights (contextOf t .confirmed)) (unproven (contextOf t .stage)) c)) r h e
 keep t {a = a} l (is-terminal-taken n q c r h e) i = completed-now (contextOf t) (a .name) (a .certificate) i n r h e
 keep t l (is-announced q e) i = announced-now (contextOf t) _ i
 keep t l (is-challenged q e) i = challenged-now (contextOf t) (challengeable (contextOf t .stage) e) (known (contextOf t) refl i)
 keep t l (is-proven q e) i = proved-now (contextOf t) (known (contextOf t) (challenged-is (contextOf t .stage) e) i)
 keep t l (is-proof-lost q e) i = disproved-now (contextOf t) (known (contextOf t) (challenged-is (contextOf t .stage) e) i)
 keep t l (is-chip-key-chosen q e) i = chip-now (contextOf t) (choosable (contextOf t .stage) e) (known (contextOf t) refl i)
-keep t l (is-authenticated q e) i = authenticated-now (contextOf t) (known (contextOf t) e i)
+keep t {z = z} l (is-authenticated q e m) i = authenticated-now (contextOf t) z m (known (contextOf t) e i)
 keep t l (is-chip-lost q e) i = chip-lost-now (contextOf t) (known (contextOf t) e i)
 keep t l (not-passed q e) i = quiet i
 keep t l (is-read q) i = quiet i
@@ -311,10 +353,10 @@ keep t l (is-activated q) i = quiet i
 keep t l (is-deactivated q) i = quiet i
 
 -- a reset, and the start
-pub reset-keeps : {h : Held} (t : Token) {r : List Fact} → Agrees h t r → Agrees h (resetOf t) (Lost ∷ r)
+pub reset-keeps : {now : List TrustPoint} (t : Token) {r : List Seen} → Agrees now t r → Agrees now (resetOf t) (more now Lost r)
 unfolding resetOf
 reset-keeps t i = lost i
 
 pub start-agrees : (ps : Points) (d : Day) → Agrees (trustPoints ps) (startOf ps d) []
 unfolding startOf noChain
-start-agrees ps d = record { points = refl; rights = refl; dv = tt; chain = refl; ann = refl; chal = refl; prov = refl; auth = refl; run = tt }
+start-agrees ps d = record { points = refl; rights = refl; dv = tt; terminal = refl; key = refl; chal = refl; prov = refl; auth = refl; run = tt }

@@ -1,7 +1,8 @@
 -- The record decides: the claims, for every record. Assumes nothing.
 use Prim.Native.Nat.{ℕ, _+_, _-_, _≤_}
 use mathlib.Core.Bool.{Bool, true, false, cond, not, _&&_, _||_}
-use mathlib.Core.Path.{_≡_, refl, sym, ap, subst, _∙_}
+use mathlib.Core.Path.{_≡_, refl, sym, ap, subst, subst⁻¹, _∙_}
+use mathlib.Core.Option.{Option, none, some}
 use mathlib.Core.List.{List, [], _∷_}
 use native.Mathlib.Omega.{arith}
 use borrow.Author.Tests.{le-ltb, le-leb}
@@ -15,7 +16,7 @@ use Rattle.rights.specs.declared.Rights.{Rights}
 use Rattle.rights.specs.declared.Granted.{Granted}
 use Rattle.rights.specs.declared.Granted.the-variants.{These, NoRights}
 use Rattle.status.specs.declared.Word.{Word}
-use Rattle.status.specs.declared.Word.the-variants.{Outside as W6F00}
+use Rattle.status.specs.declared.Word.the-variants.{Done, Outside as W6F00}
 use Rattle.command.specs.declared.kind.Kind.the-variants.{Read as KindRead}
 use Rattle.command.specs.declared.Shape.{Shape}
 use Rattle.command.specs.declared.Shape.the-variants.{Command}
@@ -23,11 +24,14 @@ use Rattle.command.specs.Form.{formOf, afterHeader, afterFour, extendedOf}
 use Rattle.command.specs.Kind.{kindOf}
 use Rattle.command.specs.Shape.{shapeOf, headedOf}
 use Rattle.command.specs.declared.kind.Lookup.the-variants.{For}
+use Rattle.run.specs.declared.Password.{Password}
 use Rattle.run.specs.Run.{isCan}
 use Rattle.event.specs.declared.Event.{Event}
 use Rattle.event.specs.declared.Event.the-variants.{ReadAllowed, Refused, Lost}
-use Rattle.event.specs.declared.Refusal.the-variants.{Moment}
-use Rattle.event.specs.declared.Loss.the-variants.{Broken}
+use Rattle.event.specs.declared.Refusal.{Refusal}
+use Rattle.event.specs.declared.Refusal.the-variants.{Length, Lacking, Blocked, Unusable, Moment, Data, Parameters, NotFound, Instruction, Class, Outside}
+use Rattle.event.specs.declared.Loss.{Loss}
+use Rattle.event.specs.declared.Loss.the-variants.{Unprotected, Broken}
 use Rattle.plans.specs.declared.Guard.the-variants.{Passes, Drops}
 use Rattle.event.specs.Event.{wordOf}
 use Rattle.plans.specs.declared.Note.the-variants.{Protected}
@@ -39,6 +43,7 @@ use Rattle.order.specs.Order.{grounded}
 use Rattle.fields.specs.Given.{only}
 use Rattle.fields.specs.Asked.{askedOf, askedBy, asking, dataOf}
 use Rattle.fields.specs.declared.asked.Ask.the-variants.{Read as AskRead}
+use Rattle.fields.specs.declared.asked.Asked.{Asked}
 use Rattle.fields.specs.declared.asked.Request.{Request}
 use Rattle.fields.specs.declared.asked.Request.the-variants.{Asks}
 use Rattle.status.specs.Words.{wordNumber}
@@ -67,46 +72,58 @@ use Rattle.token.specs.declared.state.Token.{Token}
 use Rattle.token.specs.Limits.{inLimits}
 use Rattle.checks.specs.Checks.{readPlan}
 use Rattle.token.specs.Plan.{commandOf, timedOf, requestedOf, guarded, planOf}
-use Rattle.token.specs.Step.{Stepped, happenedOf, nextOf, endedBy, stepOf}
+use Rattle.token.specs.Step.{Exchange, Stepped, happenedOf, nextOf, endedBy, stepOf}
 use Rattle.reached.proofs.Fits.{InLimits, in-limits, fits}
 use Rattle.reached.proofs.Within.{InContext, context-of, reset-in, step-in, made-in}
-use Rattle.record.specs.Entries.{Exchange, Entry, Reset, Sent, prescribed, after, reached, Shown, shownAt, shown}
-use Rattle.record.specs.Rule.{Fact, factBy, factOf, factsOf, requestFact, Held, ruleA, ruleB, ruleE, readable}
-use Rattle.record.specs.Claim.{begun, trustPoints, ReadOf, short, extended, ReadsNow, recordSays, Decides, Claim, Answers, ClaimBytes, ClaimWithin}
+use Rattle.record.specs.Entries.{Entry, Reset, Sent, prescribed, after, reached, Shown, shownAt, shown}
+use Rattle.record.specs.Facts.{Fact, TrustPoint, Seen, factBy, factOf, factsOf, requestFact, heldAfter, held, seen}
+use Rattle.record.specs.Rule.{given, ChainRights, confirmed, chain, proven, authenticated, bitsAgree, readable}
+use Rattle.record.specs.Claim.{begun, trustPoints, ReadOf, short, extended, ReadsNow, recordSays, Exactly, Claim, ClaimBytes, ClaimWithin}
 use Rattle.record.proofs.Words.{fact-of}
-use Rattle.record.proofs.Agree.{confirmedBy, chainRightsOf, Agrees, quiet, keep, reset-keeps, start-agrees}
+use Rattle.record.proofs.Agree.{confirmedBy, chainRightsOf, opener-open, more, Agrees, quiet, keep, reset-keeps, start-agrees}
 
 -- ---- along a record
 
 within-one : (t : Token) (x : Entry) → InLimits t → InLimits (after t x)
 unfolding after
 within-one t Reset l = reset-in t l
-within-one t (Sent x) l = step-in t (x .command) (x .note) (x .result) (x .first) (x .second) (x .size) l
+within-one t (Sent x) l = step-in t x l
 
-entry : {h : Held} (t : Token) {r : List Fact} (x : Entry) → InLimits t → Agrees h t r → Agrees h (after t x) (factOf (shownAt t x) ∷ r)
-unfolding after prescribed stepOf
+entry : {now : List TrustPoint} (t : Token) {r : List Seen} (x : Entry) → InLimits t → Agrees now t r
+    → Agrees (heldAfter now (factOf (shownAt t x))) (after t x) (more now (factOf (shownAt t x)) r)
+unfolding after stepOf
 entry t Reset l i = reset-keeps t i
-entry {h} t {r} (Sent x) l i = go (ltb (x .size) room)
+entry {now} t {r} (Sent x) l i = go (ltb (x .size) room)
   where
-    e : Happened
-    e = happenedOf t (x .command) (x .note) (x .result) (x .first) (x .second)
+    a : Asked
+    a = askedOf (x .command)
 
-    f : Fact
-    f = requestFact (askedOf (x .command)) (askedOf (x .command) .request)
+    h : Happened
+    h = happenedOf t x
 
-    go : (b : Bool) → Agrees h (cond {A = Stepped} b (record { token = t; bytes = [] }) (endedBy t e (x .first) (x .size)) .token) (factBy (cond b W6F00 (wordOf (e .event))) f ∷ r)
+    ended : Bool → Stepped
+    ended b = cond b (record { token = t; word = W6F00; bytes = [] }) (endedBy t h x)
+
+    f : Bool → Fact
+    f b = factBy (ended b .word) (requestFact a (x .second) (a .request))
+
+    go : (b : Bool) → Agrees (heldAfter now (f b)) (ended b .token) (more now (f b) r)
     go true = quiet i
     go false =
-        let g = fits t (x .command) (x .note) (x .result) (x .first) (x .second) in
-        subst (λ (y : Fact). Agrees h (nextOf t e) (y ∷ r)) (sym (fact-of t (askedOf (x .command)) g)) (keep t l g i)
+        let g = fits t x in
+        subst (λ (y : Fact). Agrees (heldAfter now y) (nextOf t h) (more now y r)) (sym (fact-of t a (x .second) g)) (keep t l g i)
 
 along-in : (t : Token) (entries : List Entry) → InLimits t → InLimits (reached t entries)
 along-in t [] l = l
 along-in t (x ∷ rest) l = along-in (after t x) rest (within-one t x l)
 
-along : {h : Held} (t : Token) (past : List Shown) (entries : List Entry) → InLimits t → Agrees h t (factsOf past) → Agrees h (reached t entries) (factsOf (shown t entries past))
-along t past [] l i = i
-along t past (x ∷ rest) l i = along (after t x) (shownAt t x ∷ past) rest (within-one t x l) (entry t x l i)
+-- the facts of a record so far
+abbrev Told : List TrustPoint → Token → List Shown → Type 0
+Told start t past = Agrees (held start (factsOf past)) t (seen start (factsOf past))
+
+along : (start : List TrustPoint) (t : Token) (past : List Shown) (entries : List Entry) → InLimits t → Told start t past → Told start (reached t entries) (shown t entries past)
+along start t past [] l i = i
+along start t past (x ∷ rest) l i = along start (after t x) (shownAt t x ∷ past) rest (within-one t x l) (entry t x l i)
 
 -- ---- a correct read is one
 
@@ -158,13 +175,6 @@ settled-event : (e : Event) (r : Answered) (a : ℕ) (z : List ℕ) → decidedO
 unfolding settledBy endingOf endsBy
 settled-event e r a z = refl
 
-read-word : (t : Token) (n : ℕ) (x : Exchange) → 1 ≤ n → n ≤ 21 → inLimits t ≡ true → ReadsNow n x
-    → prescribed t x ≡ wordOf (readEvent (isOpen (contextOf t .opened)) (noRun (contextOf t .stage)) (readsGroup (authorization (contextOf t)) n))
-unfolding prescribed
-read-word t n x lo hi l w =
-    rw (le-ltb (x .size) room (w .roomy), w .protected, read-plan t (x .command) n l (read-asked n lo hi (x .command) (w .bytes)))
-    (ap wordOf (settled-event (readEvent (isOpen (contextOf t .opened)) (noRun (contextOf t .stage)) (readsGroup (authorization (contextOf t)) n)) (x .result) (length (x .first)) (x .second)))
-
 -- its reply is its word
 bare-reply : (h : Points) (e : Event) (size : ℕ) → layoutOf e ≡ Bare → room ≤ size → replyTo h e [] size ≡ wordBytes (wordNumber (wordOf e))
 unfolding replyTo replyOf replyData
@@ -177,34 +187,32 @@ read-bare true true false = refl
 read-bare true false b = refl
 read-bare false m b = refl
 
-read-bytes : (t : Token) (n : ℕ) (x : Exchange) → 1 ≤ n → n ≤ 21 → inLimits t ≡ true → ReadsNow n x
-    → stepOf t (x .command) (x .note) (x .result) (x .first) (x .second) (x .size) .bytes
-    ≡ wordBytes (wordNumber (wordOf (readEvent (isOpen (contextOf t .opened)) (noRun (contextOf t .stage)) (readsGroup (authorization (contextOf t)) n))))
-unfolding stepOf settledBy endingOf endsBy
-read-bytes t n x lo hi l w =
-    rw (le-ltb (x .size) room (w .roomy), w .protected, read-plan t (x .command) n l (read-asked n lo hi (x .command) (w .bytes)))
-    (bare-reply _ (readEvent (isOpen (contextOf t .opened)) (noRun (contextOf t .stage)) (readsGroup (authorization (contextOf t)) n)) (x .size)
-    (read-bare (isOpen (contextOf t .opened)) (noRun (contextOf t .stage)) (readsGroup (authorization (contextOf t)) n)) (w .roomy))
+-- what happens at it
+abbrev atRead : Token → ℕ → Event
+atRead t n = readEvent (isOpen (contextOf t .opened)) (noRun (contextOf t .stage)) (readsGroup (authorization (contextOf t)) n)
+
+module _ (t : Token) (n : ℕ) (x : Exchange) (l : inLimits t ≡ true) (w : ReadsNow n x) where
+  planned : planOf t (x .command) Protected ≡ settledBy (atRead t n)
+  planned = read-plan t (x .command) n l (read-asked n (w .least) (w .most) (x .command) (w .bytes))
+
+  read-word : stepOf t x .word ≡ wordOf (atRead t n)
+  unfolding stepOf
+  read-word = rw (le-ltb (x .size) room (w .roomy), w .protected, planned) (ap wordOf (settled-event (atRead t n) (x .result) (length (x .first)) (x .second)))
+
+  read-bytes : stepOf t x .bytes ≡ wordBytes (wordNumber (wordOf (atRead t n)))
+  unfolding stepOf settledBy endingOf endsBy
+  read-bytes =
+      rw (le-ltb (x .size) room (w .roomy), w .protected, planned)
+      (bare-reply _ (atRead t n) (x .size) (read-bare (isOpen (contextOf t .opened)) (noRun (contextOf t .stage)) (readsGroup (authorization (contextOf t)) n)) (w .roomy))
 
 -- ---- 9000 exactly where all three hold
 
-allowed-word : (o m b says : Bool) → says ≡ o && m && b → Decides (wordOf (readEvent o m b)) says
-unfolding wordOf
-allowed-word true true true says e = record { allowed = λ h. refl; said = λ h. e }
-allowed-word true true false says e = record { allowed = λ h. true-false (sym h ∙ e); said = λ h. true-false (cc) }
-allowed-word true false b says e = record { allowed = λ h. true-false (sym h ∙ e); said = λ h. true-false (cc) }
-allowed-word false m b says e = record { allowed = λ h. true-false (sym h ∙ e); said = λ h. true-false (cc) }
-
--- a reply that begins with 69 is another
-other : {x y : ℕ} {A : Type 0} → 0x69 ∷ x ∷ [] ≡ 0x90 ∷ y ∷ [] → A
-other h = absurd (let z : _≡_ {A = ℕ} 0x69 0x90 = cc in omega arith)
-
-allowed-bytes : (o m b says : Bool) → says ≡ o && m && b → Answers (wordBytes (wordNumber (wordOf (readEvent o m b)))) says
-unfolding wordOf wordNumber
-allowed-bytes true true true says e = record { allowed = λ h. refl; said = λ h. e }
-allowed-bytes true true false says e = record { allowed = λ h. true-false (sym h ∙ e); said = λ h. other h }
-allowed-bytes true false b says e = record { allowed = λ h. true-false (sym h ∙ e); said = λ h. other h }
-allowed-bytes false m b says e = record { allowed = λ h. true-false (sym h ∙ e); said = λ h. other h }
+-- what holds of the three exactly where this is read, holds exactly where the record says so
+allowed : (P : Event → Type 0) → P ReadAllowed → ((e : Refusal) → P (Refused e) → ⊥) → ((e : Loss) → P (Lost e) → ⊥) → (o m b says : Bool) → says ≡ o && m && b → Exactly (says ≡ true) (P (readEvent o m b))
+allowed P ok nay lost true true true says e = record { enough = λ h. ok; needed = λ h. e }
+allowed P ok nay lost true true false says e = record { enough = λ h. true-false (sym h ∙ e); needed = λ h. absurd (nay Lacking h) }
+allowed P ok nay lost true false b says e = record { enough = λ h. true-false (sym h ∙ e); needed = λ h. absurd (nay Moment h) }
+allowed P ok nay lost false m b says e = record { enough = λ h. true-false (sym h ∙ e); needed = λ h. absurd (lost Broken h) }
 
 -- ---- the bits
 
@@ -221,10 +229,6 @@ auth-proven AtChallenged = refl
 auth-proven AtProven = refl
 auth-proven AtChosen = refl
 auth-proven AtAuthenticated = refl
-
-opener-open : (o : Opened) → openedByPin o || openedByCan o ≡ true → isOpen o ≡ true
-opener-open Nobody e = e
-opener-open (By w) e = refl
 
 -- an authenticated session has an opener, rights and a whole chain
 record Whole (c : Context) : Type 0 where
@@ -244,7 +248,7 @@ abbrev all : Reach → Rights → Rights → Granted → ℕ → Bool
 all x d u g k = hasRight k (trustedOf x) && hasRight k d && hasRight k u && hasRight k (confirmedOf g)
 
 rule-bits : (n : ℕ) (a : Bool) (o : Opened) (g : Granted) (x : Reach) (d u : Certificate) → (a ≡ true → (isOpen o ≡ true) × (hasRights g ≡ true) × (reachesTerminal x ≡ true))
-    → a && not (openedByCan o && not (all x (d .rights) (u .rights) g 4)) && all x (d .rights) (u .rights) g (7 + n) ≡ a && ruleE (confirmedBy o g) (chainRightsOf x d u) n
+    → a && not (openedByCan o && not (all x (d .rights) (u .rights) g 4)) && all x (d .rights) (u .rights) g (7 + n) ≡ a && bitsAgree (confirmedBy o g) (chainRightsOf x d u) n
 rule-bits n false o g x d u w = refl
 rule-bits n true Nobody g x d u w = true-false (sym (w refl .0))
 rule-bits n true (By p) NoRights x d u w = true-false (sym (w refl .1))
@@ -267,15 +271,25 @@ token-bits c n lo hi =
 passed : (s : Stage) {p a : Bool} → fromProven s ≡ p → isAuthenticated s ≡ a → isAuthenticated s ≡ p && a
 passed s e f = auth-proven s ∙ rw (e, f)
 
+-- (a) to (d) hold where the bits agree, for an authenticated session
+five : (a : Option (Password × Rights)) (b : Option ChainRights) (c d : Bool) (n : ℕ) → d ≡ c && d → d && bitsAgree a b n ≡ given a && given b && c && d && bitsAgree a b n
+five none b c true n e = refl
+five none b c false n e = refl
+five (some a) none c true n e = refl
+five (some a) none c false n e = refl
+five (some a) (some b) true d n e = refl
+five (some a) (some b) false true n e = true-false e
+five (some a) (some b) false false n e = refl
+
 -- the token's right is the rule's
-agree : {h : Held} (t : Token) {r : List Fact} (n : ℕ) → 1 ≤ n → n ≤ 21 → InLimits t → Agrees h t r → readsGroup (authorization (contextOf t)) n ≡ readable h r n
+agree : {now : List TrustPoint} (t : Token) (r : List Seen) (n : ℕ) → 1 ≤ n → n ≤ 21 → InLimits t → Agrees now t r → readsGroup (authorization (contextOf t)) n ≡ readable r n
 unfolding readable
-agree {h} t {r} n lo hi l i =
+agree t r n lo hi l i =
     let c : Context = contextOf t in
     token-bits c n lo hi
     ∙ rule-bits n (isAuthenticated (c .stage)) (c .opened) (c .confirmed) (c .chain .reach) (c .chain .dv) (c .chain .terminal)
     (λ a. let w = whole c (t .pin) (context-of c (t .pin) (l .context)) a in (w .opened, w .rights, w .terminal))
-    ∙ rw (i .rights, i .chain) (ap (λ (b : Bool). b && ruleE (ruleA r) (ruleB h r) n) (passed (c .stage) (i .prov) (i .auth)))
+    ∙ rw (i .rights, i .terminal, i .auth) (five (confirmed r) (chain r) (proven r) (authenticated r) n (sym (i .auth) ∙ passed (c .stage) (i .prov) (i .auth)))
 
 -- where the right is there, a session is open and no run is
 grounds : (t : Token) (n : ℕ) → 1 ≤ n → n ≤ 21 → InLimits t → readsGroup (authorization (contextOf t)) n ≡ true → (isOpen (contextOf t .opened) ≡ true) × (noRun (contextOf t .stage) ≡ true)
@@ -300,7 +314,7 @@ module _ (h : Points) (d : Day) (a : madeOf h d .made ≡ Accepted) (entries : L
   says-so n lo hi =
       let t : Token = reached (begun h d) entries in
       let i : Agrees (trustPoints h) (begun h d) [] = subst (λ (t : Token). Agrees (trustPoints h) t []) (sym (made-in h d a .0)) (start-agrees h d) in
-      sym (agree t n lo hi left-in (along (begun h d) [] entries begun-in i))
+      sym (agree t _ n lo hi left-in (along (trustPoints h) (begun h d) [] entries begun-in i))
       ∙ three (isOpen (contextOf t .opened)) (noRun (contextOf t .stage)) (readsGroup (authorization (contextOf t)) n) (grounds t n lo hi left-in)
     where
       three : (o m b : Bool) → (b ≡ true → (o ≡ true) × (m ≡ true)) → b ≡ o && m && b
@@ -310,17 +324,77 @@ module _ (h : Points) (d : Day) (a : madeOf h d .made ≡ Accepted) (entries : L
       three false m true f = sym (f refl .0)
       three false m false f = refl
 
+  module _ (n : ℕ) (x : Exchange) (w : ReadsNow n x) where
+    -- what is said of every event, and of a read that is allowed alone
+    decides : (P : Event → Type 0) → P ReadAllowed → ((e : Refusal) → P (Refused e) → ⊥) → ((e : Loss) → P (Lost e) → ⊥)
+        → Exactly (recordSays h d entries n ≡ true) (P (atRead (reached (begun h d) entries) n))
+    decides P ok nay lost =
+        let t : Token = reached (begun h d) entries in
+        allowed P ok nay lost (isOpen (contextOf t .opened)) (noRun (contextOf t .stage)) (readsGroup (authorization (contextOf t)) n) (recordSays h d entries n) (says-so n (w .least) (w .most))
+
+-- ---- the claims
+
+-- a read that is allowed is 9000; no refusal and no loss is
+done : wordOf ReadAllowed ≡ Done
+unfolding wordOf
+done = refl
+
+done-bytes : wordBytes (wordNumber (wordOf ReadAllowed)) ≡ 0x90 ∷ 0x00 ∷ []
+unfolding wordOf wordNumber
+done-bytes = refl
+
+refused-word : (e : Refusal) → wordOf (Refused e) ≡ Done → ⊥
+unfolding wordOf
+refused-word Length h = let z : _≡_ {A = ℕ} 0 1 = cc in omega arith
+refused-word Lacking h = let z : _≡_ {A = ℕ} 0 1 = cc in omega arith
+refused-word Blocked h = let z : _≡_ {A = ℕ} 0 1 = cc in omega arith
+refused-word Unusable h = let z : _≡_ {A = ℕ} 0 1 = cc in omega arith
+refused-word Moment h = let z : _≡_ {A = ℕ} 0 1 = cc in omega arith
+refused-word Data h = let z : _≡_ {A = ℕ} 0 1 = cc in omega arith
+refused-word Parameters h = let z : _≡_ {A = ℕ} 0 1 = cc in omega arith
+refused-word NotFound h = let z : _≡_ {A = ℕ} 0 1 = cc in omega arith
+refused-word Instruction h = let z : _≡_ {A = ℕ} 0 1 = cc in omega arith
+refused-word Class h = let z : _≡_ {A = ℕ} 0 1 = cc in omega arith
+refused-word Outside h = let z : _≡_ {A = ℕ} 0 1 = cc in omega arith
+
+lost-word : (e : Loss) → wordOf (Lost e) ≡ Done → ⊥
+unfolding wordOf
+lost-word Unprotected h = let z : _≡_ {A = ℕ} 0 1 = cc in omega arith
+lost-word Broken h = let z : _≡_ {A = ℕ} 0 1 = cc in omega arith
+
+first-of : {x y : ℕ} {a b : List ℕ} → x ∷ a ≡ y ∷ b → x ≡ y
+first-of h = cc
+
+refused-bytes : (e : Refusal) → wordBytes (wordNumber (wordOf (Refused e))) ≡ 0x90 ∷ 0x00 ∷ [] → ⊥
+unfolding wordOf wordNumber
+refused-bytes Length h = let z = first-of h in omega arith
+refused-bytes Lacking h = let z = first-of h in omega arith
+refused-bytes Blocked h = let z = first-of h in omega arith
+refused-bytes Unusable h = let z = first-of h in omega arith
+refused-bytes Moment h = let z = first-of h in omega arith
+refused-bytes Data h = let z = first-of h in omega arith
+refused-bytes Parameters h = let z = first-of h in omega arith
+refused-bytes NotFound h = let z = first-of h in omega arith
+refused-bytes Instruction h = let z = first-of h in omega arith
+refused-bytes Class h = let z = first-of h in omega arith
+refused-bytes Outside h = let z = first-of h in omega arith
+
+lost-bytes : (e : Loss) → wordBytes (wordNumber (wordOf (Lost e))) ≡ 0x90 ∷ 0x00 ∷ [] → ⊥
+unfolding wordOf wordNumber
+lost-bytes Unprotected h = let z = first-of h in omega arith
+lost-bytes Broken h = let z = first-of h in omega arith
+
 pub claim : Claim
-claim h d a entries n lo hi x w =
+claim h d a entries n x w =
     let t : Token = reached (begun h d) entries in
-    subst (λ (y : Word). Decides y (recordSays h d entries n)) (sym (read-word t n x lo hi (in-limits (left-in h d a entries)) w))
-    (allowed-word (isOpen (contextOf t .opened)) (noRun (contextOf t .stage)) (readsGroup (authorization (contextOf t)) n) (recordSays h d entries n) (says-so h d a entries n lo hi))
+    subst⁻¹ (λ (y : Word). Exactly (recordSays h d entries n ≡ true) (y ≡ Done)) (read-word t n x (in-limits (left-in h d a entries)) w)
+    (decides h d a entries n x w (λ (e : Event). wordOf e ≡ Done) done refused-word lost-word)
 
 pub claim-bytes : ClaimBytes
-claim-bytes h d a entries n lo hi x w =
+claim-bytes h d a entries n x w =
     let t : Token = reached (begun h d) entries in
-    subst (λ (y : List ℕ). Answers y (recordSays h d entries n)) (sym (read-bytes t n x lo hi (in-limits (left-in h d a entries)) w))
-    (allowed-bytes (isOpen (contextOf t .opened)) (noRun (contextOf t .stage)) (readsGroup (authorization (contextOf t)) n) (recordSays h d entries n) (says-so h d a entries n lo hi))
+    subst⁻¹ (λ (y : List ℕ). Exactly (recordSays h d entries n ≡ true) (y ≡ 0x90 ∷ 0x00 ∷ [])) (read-bytes t n x (in-limits (left-in h d a entries)) w)
+    (decides h d a entries n x w (λ (e : Event). wordBytes (wordNumber (wordOf e)) ≡ 0x90 ∷ 0x00 ∷ []) done-bytes refused-bytes lost-bytes)
 
 -- every state that is reached is within its limits
 pub claim-within : ClaimWithin

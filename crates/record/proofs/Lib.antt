@@ -2,4 +2,5 @@ pub mod Words
 pub mod Agree
 pub mod Decide
 pub mod Ran
+pub mod Spelt
 pub mod Examples

@@ -1,4 +1,5 @@
 pub mod Entries
+pub mod Facts
 pub mod Rule
 pub mod Claim
 pub mod Worked

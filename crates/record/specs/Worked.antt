@@ -16,7 +16,8 @@ use Rattle.verdicts.specs.declared.Verdict.the-variants.{Passed, Failed, Missin
 use Rattle.verdicts.specs.declared.Answered.{Answered}
 use Rattle.reply.specs.Reply.{room}
 use Rattle.trust.specs.Trust.{onePoint}
-use Rattle.record.specs.Entries.{Exchange, Entry, Reset, Sent, prescribed, reached}
+use Rattle.token.specs.Step.{Exchange}
+use Rattle.record.specs.Entries.{Entry, Reset, Sent, prescribed, reached}
 use Rattle.record.specs.Claim.{begun, recordSays}
 
 -- crypto results: none, passed with key number 7, failed

@@ -17,30 +17,22 @@ use Rattle.answer.specs.Answer.{replyTo}
 use Rattle.token.specs.declared.state.Token.{Token}
 use Rattle.token.specs.Plan.{planOf}
 use Rattle.token.specs.After.{afterOf}
-use Rattle.token.specs.Step.{stepOf}
+use Rattle.token.specs.Step.{Exchange, Steps, stepOf}
 
-module _ (t : Token) (s : List ℕ) (note : Note) (r : Answered) (first second : List ℕ) (size : ℕ) where
-  module _ (q : size < room) where
-    pub short-token : t ≡ stepOf t s note r first second size .token
-    unfolding stepOf
-    short-token = rw (lt-ltb _ _ q)
+module _ (t : Token) (s : List ℕ) (note : Note) (r : Answered) (first second : List ℕ) (p : Plan) (e : p ≡ planOf t s note) (h : Happened) (f : h ≡ decidedOf p r (length first) second) where
+  pub answer-part : h .answer ≤ length first
+  answer-part = subst⁻¹ (λ (x : Happened). x .answer ≤ length first) f (answer-in p r (length first) second .1)
 
-    pub short-bytes : (o : List ℕ) → Written (stepOf t s note r first second size .bytes) o o 0
-    unfolding stepOf
-    short-bytes o = rw (lt-ltb _ _ q) (refl, refl)
+  pub answer-size : h .answer ≡ length (take (h .answer) first)
+  answer-size = sym (length-take-le (h .answer) first answer-part)
 
-  module _ (p : Plan) (e : p ≡ planOf t s note) (h : Happened) (f : h ≡ decidedOf p r (length first) second) where
-    pub answer-part : h .answer ≤ length first
-    answer-part = subst⁻¹ (λ (x : Happened). x .answer ≤ length first) f (answer-in p r (length first) second .1)
+module _ (t : Token) (x : Exchange) where
+  pub short-step : (o : List ℕ) → x .size < room → Steps t x o o t 0
+  unfolding stepOf
+  short-step o q = record { token = rw (lt-ltb _ _ q); reply = rw (lt-ltb _ _ q) (refl, refl) }
 
-    pub answer-size : h .answer ≡ length (take (h .answer) first)
-    answer-size = sym (length-take-le (h .answer) first answer-part)
-
-    module _ (q : room ≤ size) (n : Token) (g : n ≡ afterOf t (h .event) (h .certificate) (h .key)) where
-      pub long-token : n ≡ stepOf t s note r first second size .token
-      unfolding stepOf
-      long-token = rw (le-ltb _ _ q, ← e, ← f) g
-
-      pub long-bytes : (o₀ o₁ : List ℕ) (k : ℕ) → Written (replyTo (n .points) (h .event) (take (h .answer) first) size) o₀ o₁ k → Written (stepOf t s note r first second size .bytes) o₀ o₁ k
-      unfolding stepOf
-      long-bytes o₀ o₁ k z = rw (le-ltb _ _ q, ← e, ← f, ← g) z
+  pub long-step : (p : Plan) → p ≡ planOf t (x .command) (x .note) → (h : Happened) → h ≡ decidedOf p (x .result) (length (x .first)) (x .second)
+      → room ≤ x .size → (n : Token) → n ≡ afterOf t (h .event) (h .certificate) (h .key)
+      → (o₀ o₁ : List ℕ) (k : ℕ) → Written (replyTo (n .points) (h .event) (take (h .answer) (x .first)) (x .size)) o₀ o₁ k → Steps t x o₀ o₁ n k
+  unfolding stepOf
+  long-step p e h f q n g o₀ o₁ k z = record { token = rw (le-ltb _ _ q, ← e, ← f) g; reply = rw (le-ltb _ _ q, ← e, ← f, ← g) z }

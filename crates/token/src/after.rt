@@ -214,7 +214,7 @@ impl Token {
         self
     }
 
-    pub fn after(mut self, h: Happened) -> Self
+    pub(crate) fn after(mut self, h: Happened) -> Self
         ensures { λ r. ⌜ r ≡ afterOf self (h .event) (h .certificate) (h .key) ⌝ }
     {
         let e = h.event;

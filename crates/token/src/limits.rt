@@ -22,7 +22,7 @@ fn selectable(selected: Selected, two: bool, dv: bool) -> bool
 
 impl Token {
     // Whether the state is within its limits.
-    pub fn in_limits(self) -> bool
+    pub(crate) fn in_limits(self) -> bool
         ensures { λ b. ⌜ b ≡ inLimits self ⌝ }
     {
         let points = self.points;

@@ -75,7 +75,7 @@ impl Token {
     }
 
     // The limits, then protection.
-    pub fn plan(self, s: &[u8], note: Note) -> Plan
+    pub(crate) fn plan(self, s: &[u8], note: Note) -> Plan
         ensures { λ r. ⌜ r ≡ planOf self (now (s .entry)) note ⌝ }
     {
         if !self.in_limits() {

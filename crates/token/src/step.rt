@@ -1,8 +1,6 @@
 // One step: a buffer under 258 answers 6F00 at once; else plan, decide, after, reply.
-ghost use mathlib.Core.Path.{_≡_};
 ghost use lib.ListN.{length};
-ghost use Rattle.buffers.specs.Lay.{Written};
-ghost use Rattle.token.specs.Step.{stepOf};
+ghost use Rattle.token.specs.Step.{exchange, Steps};
 use super::state::Token;
 use plans::Note;
 use verdicts::Answered;
@@ -23,8 +21,7 @@ impl Token {
         second: &[u8],
         out: &mut [u8],
     ) -> Outcome
-        ensures { λ r. ⌜ r .token ≡ stepOf self (now (s .entry)) note result (now (first .entry)) (now (second .entry)) (length (now (out .entry))) .token ⌝ }
-        ensures { λ r. ⌜ Written (stepOf self (now (s .entry)) note result (now (first .entry)) (now (second .entry)) (length (now (out .entry))) .bytes) (now (out .entry)) (now (out .exit)) (r .len) ⌝ }
+        ensures { λ r. ⌜ Steps self (exchange (now (s .entry)) note result (now (first .entry)) (now (second .entry)) (length (now (out .entry)))) (now (out .entry)) (now (out .exit)) (r .token) (r .len) ⌝ }
     {
         if out.len() < Token::ROOM {
             return Outcome {

@@ -70,17 +70,17 @@ pub ruleset decisions = (judged-not, judged-good, judged-other, awaited-fits, aw
 
 -- what is to hold of whatever happens, given it of both ways
 module _ (P : Happened → Type 0) (p : Plan) where
-  judged-all : (v : Verdict) (j : Job) (x y : Event) (a : ℕ) (s : List ℕ) → P (endsBy p y) → ((n : ℕ) → P (passesBy p j n x a)) → P (judgedOf p v j x y a s)
+  judged-all : (v : Verdict) (j : Job) (x y : Event) (a : ℕ) (s : List ℕ) → P (endsBy p y) → (matches j (p .key) s ≡ true → (n : ℕ) → P (passesBy p j n x a)) → P (judgedOf p v j x y a s)
   unfolding judgedOf
-  judged-all (Passed n) j x y a s e f = go (matches j (p .key) s)
+  judged-all (Passed n) j x y a s e f = go (matches j (p .key) s) refl
     where
-      go : (b : Bool) → P (cond b (passesBy p j n x a) (endsBy p y))
-      go true = f n
-      go false = e
+      go : (b : Bool) → matches j (p .key) s ≡ b → P (cond b (passesBy p j n x a) (endsBy p y))
+      go true m = f m n
+      go false m = e
   judged-all Failed j x y a s e f = e
   judged-all Missing j x y a s e f = e
 
-  awaited-all : (r : Answered) (j : Job) (x y : Event) (a : ℕ) (s : List ℕ) → P (endsBy p y) → (jobFits j a (length s) ≡ true → (n : ℕ) → P (passesBy p j n x a))
+  awaited-all : (r : Answered) (j : Job) (x y : Event) (a : ℕ) (s : List ℕ) → P (endsBy p y) → (jobFits j a (length s) ≡ true → matches j (p .key) s ≡ true → (n : ℕ) → P (passesBy p j n x a))
       → P (awaitedOf p r j x y a s)
   unfolding awaitedOf
   awaited-all r j x y a s e f = go (eqb (jobNumber j) (jobNumber (r .job))) (jobFits j a (length s)) refl
@@ -92,7 +92,7 @@ module _ (P : Happened → Type 0) (p : Plan) where
 
   pub decided-all : (r : Answered) (a : ℕ) (s : List ℕ) → ((e : Event) → p .ending ≡ Settled e → P (endsBy p e))
       → ((j : Job) (x y : Event) → p .ending ≡ Awaits j x y → P (endsBy p y))
-      → ((j : Job) (x y : Event) → p .ending ≡ Awaits j x y → jobFits j a (length s) ≡ true → (n : ℕ) → P (passesBy p j n x a)) → P (decidedOf p r a s)
+      → ((j : Job) (x y : Event) → p .ending ≡ Awaits j x y → jobFits j a (length s) ≡ true → matches j (p .key) s ≡ true → (n : ℕ) → P (passesBy p j n x a)) → P (decidedOf p r a s)
   unfolding endingOf
   decided-all r a s once other passed = go (p .ending) refl
     where
@@ -121,12 +121,12 @@ Small a h = (h .answer ≤ longest) × (h .answer ≤ a)
 pub answer-in : (p : Plan) (r : Answered) (a : ℕ) (s : List ℕ) → Small a (decidedOf p r a s)
 unfolding endsBy passesBy
 answer-in p r a s =
-    decided-all (Small a) p r a s (λ e h. (omega arith, omega arith)) (λ j x y h. (omega arith, omega arith)) (λ j x y h f n. (first-small j a (length s) f, omega arith))
+    decided-all (Small a) p r a s (λ e h. (omega arith, omega arith)) (λ j x y h. (omega arith, omega arith)) (λ j x y h f m n. (first-small j a (length s) f, omega arith))
 
 -- ---- "where none, the result has no influence"
 
 unanswered : (p : Plan) (r : Answered) (x y : Event) (a : ℕ) (s : List ℕ) → awaitedOf p r Nothing x y a s ≡ endsBy p y
-unanswered p r x y a s = awaited-all (λ (h : Happened). h ≡ endsBy p y) p r Nothing x y a s refl (λ f n. true-false (sym f))
+unanswered p r x y a s = awaited-all (λ (h : Happened). h ≡ endsBy p y) p r Nothing x y a s refl (λ f m n. true-false (sym f))
 
 pub no-influence : (p : Plan) (r q : Answered) (a b : ℕ) (s t : List ℕ) → endingJob (p .ending) ≡ Nothing → decidedOf p r a s ≡ decidedOf p q b t
 unfolding endingOf
