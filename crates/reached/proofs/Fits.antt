@@ -8,14 +8,13 @@ use lib.ListN.{length}
 use borrow.Author.Tests.{not-false}
 use Rattle.laws.proofs.Bools.{true-false, and-l, and-7, or-l, of-both}
 use Rattle.names.specs.Names.{sameName}
-use Rattle.certificate.specs.Certificate.{noCertificate, withKey}
+use Rattle.brought.specs.Brought.{broughtNone}
 use Rattle.days.specs.Days.{dayFits}
-use Rattle.keys.specs.Keys.{noKey}
 use Rattle.rights.specs.Rights.{roleOf, readsGroup}
 use Rattle.roles.specs.Roles.{isDv}
 use Rattle.names.specs.declared.Name.{Name}
-use Rattle.keys.specs.declared.Key.{Key}
 use Rattle.certificate.specs.declared.Certificate.{Certificate}
+use Rattle.brought.specs.declared.Brought.{Brought}
 use Rattle.roles.specs.declared.Role.{Role}
 use Rattle.roles.specs.declared.Role.the-variants.{Cvca, OfficialDv, OtherDv, Terminal}
 use Rattle.command.specs.declared.kind.Kind.{Kind}
@@ -33,7 +32,7 @@ use Rattle.plans.specs.declared.Note.{Note}
 use Rattle.plans.specs.declared.Guard.{Guard}
 use Rattle.plans.specs.declared.Guard.the-variants.{Passes, Drops}
 use Rattle.plans.specs.declared.Job.{Job}
-use Rattle.plans.specs.declared.Job.the-variants.{Step as StepJob, Challenge as ChallengeJob, Proof, PinChange}
+use Rattle.plans.specs.declared.Job.the-variants.{Step as StepJob, Certificate as CertificateJob, Challenge as ChallengeJob, Proof, PinChange}
 use Rattle.plans.specs.declared.Ending.{Ending}
 use Rattle.plans.specs.declared.Ending.the-variants.{Settled, Awaits}
 use Rattle.plans.specs.declared.Plan.{Plan}
@@ -96,35 +95,35 @@ pub data Quiet : Ask → Type 0 where
   challenging : Quiet Challenge
   changing : Quiet ChangePin
 
-pub data Fits (t : Token) (a : Asked) : Event → Certificate → Key → Type 0 where
-  is-refused : {w : Refusal} {p : Certificate} {k : Key} → Fits t a (Refused w) p k
-  is-lost : {l : Loss} {p : Certificate} {k : Key} → Fits t a (Lost l) p k
-  is-chosen : {m : Kind} {ch : Bool} {c : Choice} {p : Certificate} {k : Key} → a .request ≡ Asks m ch (Choose c) → isPin (passwordOf c) && eqb (t .pin) 0 ≡ false → Fits t a (Chosen c (t .pin)) p k
-  is-stepped : {m : Kind} {ch : Bool} {x : Step} {c : Choice} {s : Step} {p : Certificate} {k : Key} → a .request ≡ Asks m ch (General (StepData x)) → contextOf t .stage ≡ Run c s → isLast s ≡ false → Fits t a (StepPassed c s) p k
-  is-opened : {m : Kind} {ch : Bool} {x : Step} {c : Choice} {s : Step} {p : Certificate} {k : Key} → a .request ≡ Asks m ch (General (StepData x)) → contextOf t .stage ≡ Run c s → isLast s ≡ true → Fits t a (IsOpened c) p k
-  is-run-closed : {m : Kind} {ch : Bool} {x : Step} {c : Choice} {s : Step} {p : Certificate} {k : Key} → a .request ≡ Asks m ch (General (StepData x)) → contextOf t .stage ≡ Run c s → Fits t a RunClosed p k
-  is-trial-lost : {m : Kind} {ch : Bool} {x : Step} {c : Choice} {s : Step} {p : Certificate} {k : Key} → a .request ≡ Asks m ch (General (StepData x)) → contextOf t .stage ≡ Run c s → Fits t a (TrialLost (t .pin - 1)) p k
-  is-selected : {m : Kind} {ch : Bool} {i : Issuer} {p : Certificate} {k : Key} → a .request ≡ Asks m ch Select → Selects t i → Fits t a (IsSelected i) p k
-  is-link-taken : (n : ℕ) {m : Kind} {ch : Bool} {k : Key} → a .request ≡ Asks m ch Verify → certifying t ≡ true → roleOf (a .certificate .rights) ≡ Cvca → knows (t .points) (a .certificate .name) ≡ false
-      → Fits t a LinkTaken (withKey (a .certificate) n) k
-  is-dv-taken : (n : ℕ) {m : Kind} {ch : Bool} {h : Certificate} {k : Key} → a .request ≡ Asks m ch Verify → certifying t ≡ true → isDv (roleOf (a .certificate .rights)) ≡ true → knows (t .points) (a .certificate .name) ≡ false
-      → Holds (t .points) h → sameName (a .name) (h .name) ≡ true → Fits t a (DvTaken (h .rights)) (withKey (a .certificate) n) k
-  is-terminal-taken : (n : ℕ) {m : Kind} {ch : Bool} {k : Key} → a .request ≡ Asks m ch Verify → certifying t ≡ true → roleOf (a .certificate .rights) ≡ Terminal → hasDv (chainOf t) ≡ true
-      → sameName (a .name) (chainOf t .dv .name) ≡ true → Fits t a TerminalTaken (withKey (a .certificate) n) k
-  is-announced : {m : Kind} {ch : Bool} {p : Certificate} → a .request ≡ Asks m ch Announce → hasTerminal (chainOf t) && unproven (contextOf t .stage) ≡ true → Fits t a IsAnnounced p (a .key)
-  is-challenged : {m : Kind} {ch : Bool} {p : Certificate} {k : Key} → a .request ≡ Asks m ch Challenge → isAnnounced (contextOf t .stage) || isChallenged (contextOf t .stage) ≡ true → Fits t a IsChallenged p k
-  is-proven : {m : Kind} {ch : Bool} {p : Certificate} {k : Key} → a .request ≡ Asks m ch Prove → isChallenged (contextOf t .stage) ≡ true → Fits t a IsProven p k
-  is-proof-lost : {m : Kind} {ch : Bool} {p : Certificate} {k : Key} → a .request ≡ Asks m ch Prove → isChallenged (contextOf t .stage) ≡ true → Fits t a ProofLost p k
-  is-chip-key-chosen : {m : Kind} {ch : Bool} {p : Certificate} {k : Key} → a .request ≡ Asks m ch ChooseChipKey → isProven (contextOf t .stage) || isChosen (contextOf t .stage) ≡ true → Fits t a IsChosen p k
-  is-authenticated : {m : Kind} {ch : Bool} {p : Certificate} {k : Key} → a .request ≡ Asks m ch (General Chip) → contextOf t .stage ≡ ChipKeyChosen → Fits t a IsAuthenticated p k
-  is-chip-lost : {m : Kind} {ch : Bool} {p : Certificate} {k : Key} → a .request ≡ Asks m ch (General Chip) → contextOf t .stage ≡ ChipKeyChosen → Fits t a ChipLost p k
-  not-passed : {m : Kind} {ch : Bool} {x : Ask} {p : Certificate} {k : Key} → a .request ≡ Asks m ch x → Quiet x → Fits t a NotPassed p k
-  is-read : {m : Kind} {ch : Bool} {n : ℕ} {p : Certificate} {k : Key} → a .request ≡ Asks m ch (Read n) → Fits t a ReadAllowed p k
-  is-changed : {m : Kind} {ch : Bool} {p : Certificate} {k : Key} → a .request ≡ Asks m ch ChangePin → Fits t a PinChanged p k
-  is-unblocked-puk : {m : Kind} {ch : Bool} {p : Certificate} {k : Key} → a .request ≡ Asks m ch Unblock → Fits t a UnblockedByPuk p k
-  is-unblocked : {m : Kind} {ch : Bool} {p : Certificate} {k : Key} → a .request ≡ Asks m ch Unblock → Fits t a UnblockedByRight p k
-  is-activated : {m : Kind} {ch : Bool} {p : Certificate} {k : Key} → a .request ≡ Asks m ch Activate → Fits t a Activated p k
-  is-deactivated : {m : Kind} {ch : Bool} {p : Certificate} {k : Key} → a .request ≡ Asks m ch Deactivate → Fits t a Deactivated p k
+pub data Fits (t : Token) (a : Asked) : Event → Brought → Type 0 where
+  is-refused : {w : Refusal} {b : Brought} → Fits t a (Refused w) b
+  is-lost : {l : Loss} {b : Brought} → Fits t a (Lost l) b
+  is-chosen : {m : Kind} {ch : Bool} {c : Choice} {b : Brought} → a .request ≡ Asks m ch (Choose c) → isPin (passwordOf c) && eqb (t .pin) 0 ≡ false → Fits t a (Chosen c (t .pin)) b
+  is-stepped : {m : Kind} {ch : Bool} {x : Step} {c : Choice} {s : Step} {b : Brought} → a .request ≡ Asks m ch (General (StepData x)) → contextOf t .stage ≡ Run c s → isLast s ≡ false → Fits t a (StepPassed c s) b
+  is-opened : {m : Kind} {ch : Bool} {x : Step} {c : Choice} {s : Step} {b : Brought} → a .request ≡ Asks m ch (General (StepData x)) → contextOf t .stage ≡ Run c s → isLast s ≡ true → Fits t a (IsOpened c) b
+  is-run-closed : {m : Kind} {ch : Bool} {x : Step} {c : Choice} {s : Step} {b : Brought} → a .request ≡ Asks m ch (General (StepData x)) → contextOf t .stage ≡ Run c s → Fits t a RunClosed b
+  is-trial-lost : {m : Kind} {ch : Bool} {x : Step} {c : Choice} {s : Step} {b : Brought} → a .request ≡ Asks m ch (General (StepData x)) → contextOf t .stage ≡ Run c s → Fits t a (TrialLost (t .pin - 1)) b
+  is-selected : {m : Kind} {ch : Bool} {i : Issuer} {b : Brought} → a .request ≡ Asks m ch Select → Selects t i → Fits t a (IsSelected i) b
+  is-link-taken : (n : ℕ) {m : Kind} {ch : Bool} → a .request ≡ Asks m ch Verify → certifying t ≡ true → roleOf (a .brought .certificate .rights) ≡ Cvca → knows (t .points) (a .brought .certificate .name) ≡ false
+      → Fits t a LinkTaken (takenIn CertificateJob (a .brought) n)
+  is-dv-taken : (n : ℕ) {m : Kind} {ch : Bool} {h : Certificate} → a .request ≡ Asks m ch Verify → certifying t ≡ true → isDv (roleOf (a .brought .certificate .rights)) ≡ true → knows (t .points) (a .brought .certificate .name) ≡ false
+      → Holds (t .points) h → sameName (a .brought .name) (h .name) ≡ true → Fits t a (DvTaken (h .rights)) (takenIn CertificateJob (a .brought) n)
+  is-terminal-taken : (n : ℕ) {m : Kind} {ch : Bool} → a .request ≡ Asks m ch Verify → certifying t ≡ true → roleOf (a .brought .certificate .rights) ≡ Terminal → hasDv (chainOf t) ≡ true
+      → sameName (a .brought .name) (chainOf t .dv .name) ≡ true → Fits t a TerminalTaken (takenIn CertificateJob (a .brought) n)
+  is-announced : {m : Kind} {ch : Bool} → a .request ≡ Asks m ch Announce → hasTerminal (chainOf t) && unproven (contextOf t .stage) ≡ true → Fits t a IsAnnounced (a .brought)
+  is-challenged : {m : Kind} {ch : Bool} {b : Brought} → a .request ≡ Asks m ch Challenge → isAnnounced (contextOf t .stage) || isChallenged (contextOf t .stage) ≡ true → Fits t a IsChallenged b
+  is-proven : {m : Kind} {ch : Bool} {b : Brought} → a .request ≡ Asks m ch Prove → isChallenged (contextOf t .stage) ≡ true → Fits t a IsProven b
+  is-proof-lost : {m : Kind} {ch : Bool} {b : Brought} → a .request ≡ Asks m ch Prove → isChallenged (contextOf t .stage) ≡ true → Fits t a ProofLost b
+  is-chip-key-chosen : {m : Kind} {ch : Bool} {b : Brought} → a .request ≡ Asks m ch ChooseChipKey → isProven (contextOf t .stage) || isChosen (contextOf t .stage) ≡ true → Fits t a IsChosen b
+  is-authenticated : {m : Kind} {ch : Bool} {b : Brought} → a .request ≡ Asks m ch (General Chip) → contextOf t .stage ≡ ChipKeyChosen → Fits t a IsAuthenticated b
+  is-chip-lost : {m : Kind} {ch : Bool} {b : Brought} → a .request ≡ Asks m ch (General Chip) → contextOf t .stage ≡ ChipKeyChosen → Fits t a ChipLost b
+  not-passed : {m : Kind} {ch : Bool} {x : Ask} {b : Brought} → a .request ≡ Asks m ch x → Quiet x → Fits t a NotPassed b
+  is-read : {m : Kind} {ch : Bool} {n : ℕ} {b : Brought} → a .request ≡ Asks m ch (Read n) → Fits t a ReadAllowed b
+  is-changed : {m : Kind} {ch : Bool} {b : Brought} → a .request ≡ Asks m ch ChangePin → Fits t a PinChanged b
+  is-unblocked-puk : {m : Kind} {ch : Bool} {b : Brought} → a .request ≡ Asks m ch Unblock → Fits t a UnblockedByPuk b
+  is-unblocked : {m : Kind} {ch : Bool} {b : Brought} → a .request ≡ Asks m ch Unblock → Fits t a UnblockedByRight b
+  is-activated : {m : Kind} {ch : Bool} {b : Brought} → a .request ≡ Asks m ch Activate → Fits t a Activated b
+  is-deactivated : {m : Kind} {ch : Bool} {b : Brought} → a .request ≡ Asks m ch Deactivate → Fits t a Deactivated b
 
 -- ---- a state within its limits, rung by rung
 
@@ -180,21 +179,21 @@ wantsVerdict Deactivated = false
 wantsVerdict NotPassed = false
 
 -- what comes without a verdict needs none
-data Ending·Fits (t : Token) (a : Asked) (p : Certificate) (k : Key) : Ending → Type 0 where
-  at-once : {e : Event} → Fits t a e p k → wantsVerdict e ≡ false → Ending·Fits t a p k (Settled e)
-  in-time : {j : Job} {x y : Event} → ((n : ℕ) → Fits t a x (takenIn j p n) k) → Fits t a y p k → wantsVerdict y ≡ false → Ending·Fits t a p k (Awaits j x y)
+data Ending·Fits (t : Token) (a : Asked) (b : Brought) : Ending → Type 0 where
+  at-once : {e : Event} → Fits t a e b → wantsVerdict e ≡ false → Ending·Fits t a b (Settled e)
+  in-time : {j : Job} {x y : Event} → ((n : ℕ) → Fits t a x (takenIn j b n)) → Fits t a y b → wantsVerdict y ≡ false → Ending·Fits t a b (Awaits j x y)
 
 -- what an ending gives without a good result
 abbrev pub without : Ending → Event
 without (Settled e) = e
 without (Awaits j x y) = y
 
-modest : {t : Token} {a : Asked} {p : Certificate} {k : Key} {c : Ending} → Ending·Fits t a p k c → wantsVerdict (without c) ≡ false
+modest : {t : Token} {a : Asked} {b : Brought} {c : Ending} → Ending·Fits t a b c → wantsVerdict (without c) ≡ false
 modest (at-once f w) = w
 modest (in-time f g w) = w
 
 abbrev Plan·Fits : Token → Asked → Plan → Type 0
-Plan·Fits t a q = Ending·Fits t a (q .certificate) (q .key) (q .ending)
+Plan·Fits t a q = Ending·Fits t a (q .brought) (q .ending)
 
 -- one check of a ladder, with what it tells
 rung : {A : Type 0} (P : A → Type 0) (b : Bool) {x y : A} → (b ≡ true → P x) → (b ≡ false → P y) → P (cond b x y)
@@ -203,7 +202,7 @@ rung P false f g = g refl
 
 module _ (t : Token) (a : Asked) where
   abbrev Bare : Event → Type 0
-  Bare e = Fits t a e noCertificate noKey
+  Bare e = Fits t a e broughtNone
 
   abbrev On : Event → Type 0
   On e = Bare e × (wantsVerdict e ≡ false)
@@ -218,7 +217,7 @@ module _ (t : Token) (a : Asked) where
   refuses : (w : Refusal) → Plan·Fits t a (settledBy (Refused w))
   refuses w = once (Refused w) refused
 
-  waits : (j : Job) (x y : Event) → ((n : ℕ) → Fits t a x (takenIn j noCertificate n) noKey) → On y → Plan·Fits t a (awaitsBy j x y)
+  waits : (j : Job) (x y : Event) → ((n : ℕ) → Fits t a x (takenIn j broughtNone n)) → On y → Plan·Fits t a (awaitsBy j x y)
   unfolding awaitsBy
   waits j x y f g = in-time f (g .0) (g .1)
 
@@ -241,8 +240,8 @@ module _ (t : Token) (a : Asked) where
   choose-ways false false false true c n f = refused
   choose-ways false false false false c n f = f refl
 
-  verify-ways : (m r u l : Bool) (x : Event) → (m ≡ false → r ≡ false → u ≡ false → (n : ℕ) → Fits t a x (withKey (a .certificate) n) noKey) → Fits t a NotPassed (a .certificate) noKey
-      → Ending·Fits t a (a .certificate) noKey (verifyLadder m r u l x)
+  verify-ways : (m r u l : Bool) (x : Event) → (m ≡ false → r ≡ false → u ≡ false → (n : ℕ) → Fits t a x (takenIn CertificateJob (a .brought) n)) → Fits t a NotPassed (a .brought)
+      → Ending·Fits t a (a .brought) (verifyLadder m r u l x)
   verify-ways true r u l x f g = at-once is-refused refl
   verify-ways false true u l x f g = at-once is-refused refl
   verify-ways false false true l x f g = at-once is-refused refl
@@ -307,39 +306,39 @@ module _ (t : Token) (a : Asked) where
 
     -- under each issuer, each role
     module _ (q : a .request ≡ Asks m ch Verify) (c : certifying t ≡ true) where
-      taken-fits : (i : Issuer) (o : Role) → roleOf (a .certificate .rights) ≡ o → selectable (Chose i) (t .points .two) (hasDv (chainOf t)) ≡ true → not (issues i o) ≡ false
-          → repeats (t .points) (chainOf t .dv) (a .certificate .name) o ≡ false → not (sameName (a .name) (issuerOf (t .points) i (chainOf t .dv) .name)) ≡ false
-          → (n : ℕ) → Fits t a (takenEvent o (issuerOf (t .points) i (chainOf t .dv) .rights)) (withKey (a .certificate) n) noKey
+      taken-fits : (i : Issuer) (o : Role) → roleOf (a .brought .certificate .rights) ≡ o → selectable (Chose i) (t .points .two) (hasDv (chainOf t)) ≡ true → not (issues i o) ≡ false
+          → repeats (t .points) (chainOf t .dv) (a .brought .certificate .name) o ≡ false → not (sameName (a .brought .name) (issuerOf (t .points) i (chainOf t .dv) .name)) ≡ false
+          → (n : ℕ) → Fits t a (takenEvent o (issuerOf (t .points) i (chainOf t .dv) .rights)) (takenIn CertificateJob (a .brought) n)
       unfolding repeats
-      taken-fits Newest Cvca r s e f g n = is-link-taken n q c r (or-l (knows (t .points) (a .certificate .name)) _ f)
-      taken-fits Newest OfficialDv r s e f g n = is-dv-taken n q c (rw r) (or-l (knows (t .points) (a .certificate .name)) _ f) as-newest (not-false _ g)
-      taken-fits Newest OtherDv r s e f g n = is-dv-taken n q c (rw r) (or-l (knows (t .points) (a .certificate .name)) _ f) as-newest (not-false _ g)
+      taken-fits Newest Cvca r s e f g n = is-link-taken n q c r (or-l (knows (t .points) (a .brought .certificate .name)) _ f)
+      taken-fits Newest OfficialDv r s e f g n = is-dv-taken n q c (rw r) (or-l (knows (t .points) (a .brought .certificate .name)) _ f) as-newest (not-false _ g)
+      taken-fits Newest OtherDv r s e f g n = is-dv-taken n q c (rw r) (or-l (knows (t .points) (a .brought .certificate .name)) _ f) as-newest (not-false _ g)
       taken-fits Newest Terminal r s e f g n = true-false e
-      taken-fits Previous Cvca r s e f g n = is-link-taken n q c r (or-l (knows (t .points) (a .certificate .name)) _ f)
-      taken-fits Previous OfficialDv r s e f g n = is-dv-taken n q c (rw r) (or-l (knows (t .points) (a .certificate .name)) _ f) (as-previous s) (not-false _ g)
-      taken-fits Previous OtherDv r s e f g n = is-dv-taken n q c (rw r) (or-l (knows (t .points) (a .certificate .name)) _ f) (as-previous s) (not-false _ g)
+      taken-fits Previous Cvca r s e f g n = is-link-taken n q c r (or-l (knows (t .points) (a .brought .certificate .name)) _ f)
+      taken-fits Previous OfficialDv r s e f g n = is-dv-taken n q c (rw r) (or-l (knows (t .points) (a .brought .certificate .name)) _ f) (as-previous s) (not-false _ g)
+      taken-fits Previous OtherDv r s e f g n = is-dv-taken n q c (rw r) (or-l (knows (t .points) (a .brought .certificate .name)) _ f) (as-previous s) (not-false _ g)
       taken-fits Previous Terminal r s e f g n = true-false e
       taken-fits Dv Cvca r s e f g n = true-false e
       taken-fits Dv OfficialDv r s e f g n = true-false e
       taken-fits Dv OtherDv r s e f g n = true-false e
       taken-fits Dv Terminal r s e f g n = is-terminal-taken n q c r s (not-false _ g)
 
-      under-fits : (i : Issuer) → selectable (Chose i) (t .points .two) (hasDv (chainOf t)) ≡ true → Plan·Fits t a (underPlan (t .points) (chainOf t .dv) (t .today) i (a .name) (a .certificate))
+      under-fits : (i : Issuer) → selectable (Chose i) (t .points .two) (hasDv (chainOf t)) ≡ true → Plan·Fits t a (underPlan (t .points) (chainOf t .dv) (t .today) i (a .brought))
       unfolding underPlan underEnding
       under-fits i s =
-          let o : Role = roleOf (a .certificate .rights) in
+          let o : Role = roleOf (a .brought .certificate .rights) in
           let h : Certificate = issuerOf (t .points) i (chainOf t .dv) in
-          verify-ways (not (issues i o)) (repeats (t .points) (chainOf t .dv) (a .certificate .name) o) (not (sameName (a .name) (h .name))) (late (t .today) (a .certificate) h o) (takenEvent o (h .rights)) (taken-fits i o refl s)
+          verify-ways (not (issues i o)) (repeats (t .points) (chainOf t .dv) (a .brought .certificate .name) o) (not (sameName (a .brought .name) (h .name))) (late (t .today) (a .brought .certificate) h o) (takenEvent o (h .rights)) (taken-fits i o refl s)
           (not-passed q verifying)
 
-      verify-fits : (s : Selected) → selectable s (t .points .two) (hasDv (chainOf t)) ≡ true → Plan·Fits t a (verifyPlan (t .points) (chainOf t .dv) (t .today) s (a .name) (a .certificate))
+      verify-fits : (s : Selected) → selectable s (t .points .two) (hasDv (chainOf t)) ≡ true → Plan·Fits t a (verifyPlan (t .points) (chainOf t .dv) (t .today) s (a .brought))
       unfolding verifyPlan
       verify-fits NoIssuer e = refuses Moment
       verify-fits (Chose i) e = under-fits i e
 
-    announce-fits : a .request ≡ Asks m ch Announce → hasTerminal (chainOf t) && unproven (contextOf t .stage) ≡ true → Plan·Fits t a (announcePlan (chainOf t .terminal .name) (a .name) (a .key))
+    announce-fits : a .request ≡ Asks m ch Announce → hasTerminal (chainOf t) && unproven (contextOf t .stage) ≡ true → Plan·Fits t a (announcePlan (chainOf t .terminal .name) (a .brought))
     unfolding announcePlan
-    announce-fits q e = of-both (Plan·Fits t a) (sameName (a .name) (chainOf t .terminal .name)) (at-once (is-announced q e) refl) (refuses NotFound)
+    announce-fits q e = of-both (Plan·Fits t a) (sameName (a .brought .name) (chainOf t .terminal .name)) (at-once (is-announced q e) refl) (refuses NotFound)
 
     read-fits : (n : ℕ) → a .request ≡ Asks m ch (Read n) → Plan·Fits t a (readPlan (contextOf t) n)
     unfolding readPlan
@@ -360,7 +359,7 @@ module _ (t : Token) (a : Asked) where
   command-fits l of-bad q e = refuses Data
   command-fits l (of-choose {c = c}) q e = choose-fits c q
   command-fits l (of-general {c = x}) q e = general-fits x (contextOf t .stage) q refl
-  command-fits l of-select q e = select-fits (a .name) q
+  command-fits l of-select q e = select-fits (a .brought .name) q
   command-fits l of-verify q e = verify-fits q (and-l (certifying t) (isSelected (t .session .selected)) e) (t .session .selected) (limits-of t l .chosen)
   command-fits l of-announce q e = announce-fits q e
   command-fits l of-challenge q e = waits ChallengeJob IsChallenged NotPassed (λ n. is-challenged q e) (not-passed q challenging, refl)
@@ -399,26 +398,26 @@ module _ (t : Token) (s : List ℕ) where
 
   -- what happens fits
   pub fits : (note : Note) (r : Answered) (first second : List ℕ)
-      → Fits t (askedOf s) (happenedOf t s note r first second .event) (happenedOf t s note r first second .certificate) (happenedOf t s note r first second .key)
+      → Fits t (askedOf s) (happenedOf t s note r first second .event) (happenedOf t s note r first second .brought)
   unfolding endsBy passesBy
   fits note r first second =
-      decided-all (λ (h : Happened). Fits t (askedOf s) (h .event) (h .certificate) (h .key)) q r (length first) second (λ e i. settled i (plan-fits note)) (λ j x y i. otherwise i (plan-fits note))
+      decided-all (λ (h : Happened). Fits t (askedOf s) (h .event) (h .brought)) q r (length first) second (λ e i. settled i (plan-fits note)) (λ j x y i. otherwise i (plan-fits note))
       (λ j x y i f n. passed n i (plan-fits note))
     where
       q : Plan
       q = planOf t s note
 
-      settled : {c : Ending} {e : Event} → c ≡ Settled e → Ending·Fits t (askedOf s) (q .certificate) (q .key) c → Fits t (askedOf s) e (q .certificate) (q .key)
-      settled i (at-once f w) = subst (λ (x : Event). Fits t (askedOf s) x (q .certificate) (q .key)) (cc) f
+      settled : {c : Ending} {e : Event} → c ≡ Settled e → Ending·Fits t (askedOf s) (q .brought) c → Fits t (askedOf s) e (q .brought)
+      settled i (at-once f w) = subst (λ (x : Event). Fits t (askedOf s) x (q .brought)) (cc) f
       settled i (in-time f g w) = true-false (cc)
 
-      otherwise : {c : Ending} {j : Job} {x y : Event} → c ≡ Awaits j x y → Ending·Fits t (askedOf s) (q .certificate) (q .key) c → Fits t (askedOf s) y (q .certificate) (q .key)
+      otherwise : {c : Ending} {j : Job} {x y : Event} → c ≡ Awaits j x y → Ending·Fits t (askedOf s) (q .brought) c → Fits t (askedOf s) y (q .brought)
       otherwise i (at-once f w) = true-false (cc)
-      otherwise i (in-time f g w) = subst (λ (x : Event). Fits t (askedOf s) x (q .certificate) (q .key)) (cc) g
+      otherwise i (in-time f g w) = subst (λ (x : Event). Fits t (askedOf s) x (q .brought)) (cc) g
 
-      passed : {c : Ending} {j : Job} {x y : Event} (n : ℕ) → c ≡ Awaits j x y → Ending·Fits t (askedOf s) (q .certificate) (q .key) c → Fits t (askedOf s) x (takenIn j (q .certificate) n) (q .key)
+      passed : {c : Ending} {j : Job} {x y : Event} (n : ℕ) → c ≡ Awaits j x y → Ending·Fits t (askedOf s) (q .brought) c → Fits t (askedOf s) x (takenIn j (q .brought) n)
       passed n i (at-once f w) = true-false (cc)
       passed {j = j} {x = x} n i (in-time {j = k} {x = z} f g w) =
           let u : k ≡ j = cc in
           let v : z ≡ x = cc in
-          subst (λ (m : Job). Fits t (askedOf s) x (takenIn m (q .certificate) n) (q .key)) u (subst (λ (w : Event). Fits t (askedOf s) w (takenIn k (q .certificate) n) (q .key)) v (f n))
+          subst (λ (m : Job). Fits t (askedOf s) x (takenIn m (q .brought) n)) u (subst (λ (w : Event). Fits t (askedOf s) w (takenIn k (q .brought) n)) v (f n))

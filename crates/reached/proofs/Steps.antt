@@ -7,7 +7,7 @@ use lib.Dec.{eqb, ltb}
 use lib.ListN.{length, take}
 use Rattle.laws.proofs.Bools.{true-false}
 use Rattle.keys.specs.declared.Key.{Key}
-use Rattle.certificate.specs.declared.Certificate.{Certificate}
+use Rattle.brought.specs.declared.Brought.{Brought}
 use Rattle.run.specs.declared.Choice.{Choice}
 use Rattle.run.specs.declared.Step.the-variants.{Confirm}
 use Rattle.run.specs.Run.{passwordOf, isPin}
@@ -39,9 +39,9 @@ use Rattle.token.specs.Step.{Stepped, happenedOf, nextOf, endedBy, stepOf}
 
 -- ---- a refusal leaves the token as it was
 
-pub refused-same : (t : Token) (w : Refusal) (p : Certificate) (k : Key) → afterOf t (Refused w) p k ≡ t
+pub refused-same : (t : Token) (w : Refusal) (b : Brought) → afterOf t (Refused w) b ≡ t
 unfolding afterOf
-refused-same t w p k = refl
+refused-same t w b = refl
 
 pub step-refused : (t : Token) (s : List ℕ) (note : Note) (r : Answered) (first second : List ℕ) (size : ℕ) (w : Refusal)
     → happenedOf t s note r first second .event ≡ Refused w → stepOf t s note r first second size .token ≡ t
@@ -53,7 +53,7 @@ step-refused t s note r first second size w e = go (ltb size room)
 
     go : (b : Bool) → cond {A = Stepped} b (record { token = t; bytes = [] }) (endedBy t h first size) .token ≡ t
     go true = refl
-    go false = ap (λ (x : Event). afterOf t x (h .certificate) (h .key)) e
+    go false = ap (λ (x : Event). afterOf t x (h .brought)) e
 
 -- ---- "where none, the result has no influence": on token, length and every byte
 
@@ -92,18 +92,18 @@ abbrev pub isGood : Job → Answered → Key → ℕ → List ℕ → Bool
 isGood j r k a s = (eqb (jobNumber j) (jobNumber (r .job)) && jobFits j a (length s)) && (isPassed (r .verdict) && matches j k s)
 
 module _ (p : Plan) (r : Answered) (j : Job) (x y : Event) (a : ℕ) (s : List ℕ) (e : p .ending ≡ Awaits j x y) where
-  judged : (v : Verdict) → isPassed v && matches j (p .key) s ≡ false → judgedOf p v j x y a s ≡ endsBy p y
+  judged : (v : Verdict) → isPassed v && matches j (p .brought .key) s ≡ false → judgedOf p v j x y a s ≡ endsBy p y
   unfolding judgedOf
   judged (Passed n) f = rw f
   judged Failed f = refl
   judged Missing f = refl
 
   -- a result that is not good takes the other event
-  pub decided-bad : isGood j r (p .key) a s ≡ false → decidedOf p r a s ≡ endsBy p y
+  pub decided-bad : isGood j r (p .brought .key) a s ≡ false → decidedOf p r a s ≡ endsBy p y
   unfolding endingOf awaitedOf
   decided-bad f = ap (λ (c : Ending). endingOf c p r a s) e ∙ go (eqb (jobNumber j) (jobNumber (r .job)) && jobFits j a (length s)) f
     where
-      go : (b : Bool) → b && (isPassed (r .verdict) && matches j (p .key) s) ≡ false → cond b (judgedOf p (r .verdict) j x y a s) (endsBy p y) ≡ endsBy p y
+      go : (b : Bool) → b && (isPassed (r .verdict) && matches j (p .brought .key) s) ≡ false → cond b (judgedOf p (r .verdict) j x y a s) (endsBy p y) ≡ endsBy p y
       go true g = judged (r .verdict) g
       go false g = refl
 
@@ -111,22 +111,22 @@ module _ (t : Token) where
   -- "A missing verdict is never a good one": no session opens, no step passes, no certificate is accepted, no terminal proven, no
   -- chip authenticated and no PIN changed but by a result that is good for the job that was wanted
   pub earned : (s : List ℕ) (note : Note) (r : Answered) (first second : List ℕ) → wantsVerdict (happenedOf t s note r first second .event) ≡ true
-      → isGood (endingJob (planOf t s note .ending)) r (planOf t s note .key) (length first) second ≡ true
+      → isGood (endingJob (planOf t s note .ending)) r (planOf t s note .brought .key) (length first) second ≡ true
   unfolding endsBy endingOf
   earned s note r first second e = go (planOf t s note .ending) refl (plan-modest t s note)
     where
       p : Plan
       p = planOf t s note
 
-      go : (c : Ending) → p .ending ≡ c → wantsVerdict (without c) ≡ false → isGood (endingJob c) r (p .key) (length first) second ≡ true
+      go : (c : Ending) → p .ending ≡ c → wantsVerdict (without c) ≡ false → isGood (endingJob c) r (p .brought .key) (length first) second ≡ true
       go (Settled x) q m = true-false (sym (sym (ap (λ (c : Ending). wantsVerdict (endingOf c p r (length first) second .event)) q ∙ m) ∙ e))
-      go (Awaits j x y) q m = test (isGood j r (p .key) (length first) second) refl
+      go (Awaits j x y) q m = test (isGood j r (p .brought .key) (length first) second) refl
         where
-          test : (b : Bool) → isGood j r (p .key) (length first) second ≡ b → isGood j r (p .key) (length first) second ≡ true
+          test : (b : Bool) → isGood j r (p .brought .key) (length first) second ≡ b → isGood j r (p .brought .key) (length first) second ≡ true
           test true f = f
           test false f = true-false (sym (sym (ap (λ (h : Happened). wantsVerdict (h .event)) (decided-bad p r j x y (length first) second q f) ∙ m) ∙ e))
 
 -- and the event that the fourth step of a PIN's run comes to otherwise leaves the counter one lower
-pub trial-paid : (t : Token) (c : Choice) (p : Certificate) (k : Key) → isPin (passwordOf c) ≡ true → afterOf t (otherEvent c Confirm (t .pin)) p k .pin ≡ t .pin - 1
+pub trial-paid : (t : Token) (c : Choice) (b : Brought) → isPin (passwordOf c) ≡ true → afterOf t (otherEvent c Confirm (t .pin)) b .pin ≡ t .pin - 1
 unfolding afterOf trialLost
-trial-paid t c p k e = rw e
+trial-paid t c b e = rw e

@@ -36,7 +36,7 @@ module _ (t : Token) (s : List ℕ) (note : Note) (r : Answered) (first second :
     pub answer-size : h .answer ≡ length (take (h .answer) first)
     answer-size = sym (length-take-le (h .answer) first answer-part)
 
-    module _ (q : room ≤ size) (n : Token) (g : n ≡ afterOf t (h .event) (h .certificate) (h .key)) where
+    module _ (q : room ≤ size) (n : Token) (g : n ≡ afterOf t (h .event) (h .brought)) where
       pub long-token : n ≡ stepOf t s note r first second size .token
       unfolding stepOf
       long-token = rw (le-ltb _ _ q, ← e, ← f) g

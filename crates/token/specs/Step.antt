@@ -24,7 +24,7 @@ happenedOf t s note r first second = decidedOf (planOf t s note) r (length first
 
 -- the token after it
 abbrev pub nextOf : Token → Happened → Token
-nextOf t h = afterOf t (h .event) (h .certificate) (h .key)
+nextOf t h = afterOf t (h .event) (h .brought)
 
 abbrev pub endedBy : Token → Happened → List ℕ → ℕ → Stepped
 endedBy t h first size = record { token = nextOf t h; bytes = replyTo (nextOf t h .points) (h .event) (take (h .answer) first) size }

@@ -37,7 +37,7 @@ module _ (p : Plan) (j : Job) (x y : Event) (a : ℕ) (s : List ℕ) (r : Happen
   judged-not Failed h z = z
   judged-not Missing h z = z
 
-  module _ (v : Verdict) (n : ℕ) (e : v ≡ Passed n) (b : Bool) (m : b ≡ matches j (p .key) s) where
+  module _ (v : Verdict) (n : ℕ) (e : v ≡ Passed n) (b : Bool) (m : b ≡ matches j (p .brought .key) s) where
     pub judged-good : b ≡ true → r ≡ passesBy p j n x a → r ≡ judgedOf p v j x y a s
     unfolding judgedOf
     judged-good h z = rw (e, ← m, h) z
@@ -72,7 +72,7 @@ pub ruleset decisions = (judged-not, judged-good, judged-other, awaited-fits, aw
 module _ (P : Happened → Type 0) (p : Plan) where
   judged-all : (v : Verdict) (j : Job) (x y : Event) (a : ℕ) (s : List ℕ) → P (endsBy p y) → ((n : ℕ) → P (passesBy p j n x a)) → P (judgedOf p v j x y a s)
   unfolding judgedOf
-  judged-all (Passed n) j x y a s e f = go (matches j (p .key) s)
+  judged-all (Passed n) j x y a s e f = go (matches j (p .brought .key) s)
     where
       go : (b : Bool) → P (cond b (passesBy p j n x a) (endsBy p y))
       go true = f n
