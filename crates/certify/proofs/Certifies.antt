@@ -4,13 +4,12 @@ use mathlib.Core.Bool.{Bool, true, false, not, _&&_, _||_}
 use mathlib.Core.Path.{_≡_, sym, ap, _∙_}
 use Rattle.names.specs.Names.{sameName}
 use Rattle.certificate.specs.Certificate.{expired}
-use Rattle.keys.specs.Keys.{noKey}
 use Rattle.rights.specs.Rights.{roleOf}
 use Rattle.roles.specs.Roles.{isCvca, isTerminal}
 use Rattle.days.specs.declared.Day.{Day}
 use Rattle.names.specs.declared.Name.{Name}
-use Rattle.keys.specs.declared.Key.{Key}
 use Rattle.certificate.specs.declared.Certificate.{Certificate}
+use Rattle.brought.specs.declared.Brought.{Brought}
 use Rattle.roles.specs.declared.Role.{Role}
 use Rattle.event.specs.declared.Refusal.the-variants.{NotFound}
 use Rattle.event.specs.declared.Issuer.{Issuer}
@@ -55,20 +54,19 @@ pub late-is : (today : Day) (p h : Certificate) (o : Role) (l a b : Bool) → l 
 unfolding late
 late-is today p h o l a b e f g = rw (e, f, g)
 
-module _ (points : Points) (dv : Certificate) (today : Day) where
-  pub ending-is : (i : Issuer) (n : Name) (p h : Certificate) (o : Role) (a b c l : Bool) (x : Event) (r : Ending) → h ≡ issuerOf points i dv → o ≡ roleOf (p .rights)
-      → a ≡ issues i o → b ≡ repeats points dv (p .name) o → c ≡ sameName n (h .name) → l ≡ late today p h o → x ≡ takenEvent o (h .rights)
-      → r ≡ verifyLadder (not a) b (not c) l x → r ≡ underEnding points dv today i n p
+module _ (points : Points) (dv : Certificate) (today : Day) (y : Brought) where
+  pub ending-is : (i : Issuer) (h : Certificate) (o : Role) (a b c l : Bool) (x : Event) (r : Ending) → h ≡ issuerOf points i dv → o ≡ roleOf (y .certificate .rights)
+      → a ≡ issues i o → b ≡ repeats points dv (y .certificate .name) o → c ≡ sameName (y .name) (h .name) → l ≡ late today (y .certificate) h o → x ≡ takenEvent o (h .rights)
+      → r ≡ verifyLadder (not a) b (not c) l x → r ≡ underEnding points dv today i y
   unfolding underEnding
-  ending-is i n p h o a b c l x r e f g q u v w z =
-      z ∙ rw (g, q, u, v, w) (ap (λ (y : Certificate). issuedEnding points dv today i y n p o) e ∙ ap (λ (y : Role). issuedEnding points dv today i (issuerOf points i dv) n p y) f)
+  ending-is i h o a b c l x r e f g q u v w z =
+      z ∙ rw (g, q, u, v, w) (ap (λ (p : Certificate). issuedEnding points dv today i p y o) e ∙ ap (λ (q : Role). issuedEnding points dv today i (issuerOf points i dv) y q) f)
 
-  pub under-is : (i : Issuer) (n : Name) (p : Certificate) (c : Ending) (k : Key) → c ≡ underEnding points dv today i n p → k ≡ noKey
-      → _≡_ {A = Plan} (record { ending = c; certificate = p; key = k }) (underPlan points dv today i n p)
+  pub under-is : (i : Issuer) (c : Ending) → c ≡ underEnding points dv today i y → _≡_ {A = Plan} (record { ending = c; brought = y }) (underPlan points dv today i y)
   unfolding underPlan
-  under-is i n p c k e f = rw (e, f)
+  under-is i c e = rw e
 
-  pub verify-arm : (n : Name) (p : Certificate) (s d : Selected) (r : Plan) → s ≡ d → r ≡ verifyPlan points dv today d n p → r ≡ verifyPlan points dv today s n p
-  verify-arm n p s d r e z = z ∙ ap (λ (y : Selected). verifyPlan points dv today y n p) (sym e)
+  pub verify-arm : (s d : Selected) (r : Plan) → s ≡ d → r ≡ verifyPlan points dv today d y → r ≡ verifyPlan points dv today s y
+  verify-arm s d r e z = z ∙ ap (λ (x : Selected). verifyPlan points dv today x y) (sym e)
 
 pub ruleset certifies = (select-point, select-dv, select-none, repeats-is, late-is, ending-is, under-is, needs)

@@ -2,12 +2,12 @@
 use mathlib.Core.Bool.{Bool, cond, not, _&&_, _||_}
 use Rattle.names.specs.Names.{sameName}
 use Rattle.certificate.specs.Certificate.{expired}
-use Rattle.keys.specs.Keys.{noKey}
 use Rattle.rights.specs.Rights.{roleOf}
 use Rattle.roles.specs.Roles.{isCvca, isTerminal}
 use Rattle.days.specs.declared.Day.{Day}
 use Rattle.names.specs.declared.Name.{Name}
 use Rattle.certificate.specs.declared.Certificate.{Certificate}
+use Rattle.brought.specs.declared.Brought.{Brought}
 use Rattle.roles.specs.declared.Role.{Role}
 use Rattle.event.specs.declared.Refusal.the-variants.{Moment, NotFound}
 use Rattle.event.specs.declared.Issuer.{Issuer}
@@ -43,28 +43,28 @@ repeats h dv n role = knows h n || (isTerminal role && sameName n (dv .name))
 unfoldable pub late : Day → Certificate → Certificate → Role → Bool
 late today p issuer role = not (isCvca role) && (expired p today || expired issuer today)
 
--- a certificate p of this role, with n in its 42, under an issuer that has this certificate of its own
-abbrev pub issuedEnding : Points → Certificate → Day → Issuer → Certificate → Name → Certificate → Role → Ending
-issuedEnding h dv today which issuer n p role =
+-- a certificate of this role that was brought, with its 42, under an issuer that has this certificate of its own
+abbrev pub issuedEnding : Points → Certificate → Day → Issuer → Certificate → Brought → Role → Ending
+issuedEnding h dv today which issuer b role =
     verifyLadder
     -- "CVCA issues CVCA (link) or DV; DV issues terminal; else 6A80"
     (not (issues which role))
     -- "A new name differs from both trust points', a terminal's also from its DV's (6A80)"
-    (repeats h dv (p .name) role)
+    (repeats h dv (b .certificate .name) role)
     -- "whose name must equal 42 (6A88)"
-    (not (sameName n (issuer .name)))
+    (not (sameName (b .name) (issuer .name)))
     -- "neither certificate nor issuer may have its last day before today (6984)"
-    (late today p issuer role)
+    (late today (b .certificate) issuer role)
     (takenEvent role (issuer .rights))
 
-unfoldable pub underEnding : Points → Certificate → Day → Issuer → Name → Certificate → Ending
-underEnding h dv today i n p = issuedEnding h dv today i (issuerOf h i dv) n p (roleOf (p .rights))
+unfoldable pub underEnding : Points → Certificate → Day → Issuer → Brought → Ending
+underEnding h dv today i b = issuedEnding h dv today i (issuerOf h i dv) b (roleOf (b .certificate .rights))
 
-unfoldable pub underPlan : Points → Certificate → Day → Issuer → Name → Certificate → Plan
-underPlan h dv today i n p = record { ending = underEnding h dv today i n p; certificate = p; key = noKey }
+unfoldable pub underPlan : Points → Certificate → Day → Issuer → Brought → Plan
+underPlan h dv today i b = record { ending = underEnding h dv today i b; brought = b }
 
 -- under the selected issuer
-unfoldable pub verifyPlan : Points → Certificate → Day → Selected → Name → Certificate → Plan
+unfoldable pub verifyPlan : Points → Certificate → Day → Selected → Brought → Plan
 -- the moment has refused this before
-verifyPlan h dv today NoIssuer n p = settledBy (Refused Moment)
-verifyPlan h dv today (Of i) n p = underPlan h dv today i n p
+verifyPlan h dv today NoIssuer b = settledBy (Refused Moment)
+verifyPlan h dv today (Of i) b = underPlan h dv today i b

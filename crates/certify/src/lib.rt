@@ -1,12 +1,12 @@
 // Select issuer and verify certificate.
 ghost use mathlib.Core.Path.{_≡_};
 ghost use Rattle.certify.specs.Certify.{selectPlan, repeats, late, underEnding, underPlan, verifyPlan};
+use brought::Brought;
 use certificate::Certificate;
 use days::Day;
 use event::Event;
 use event::Issuer;
 use event::Refusal;
-use keys::Key;
 use names::Name;
 use plans::Ending;
 use plans::Plan;
@@ -59,11 +59,12 @@ fn under_ending(
     dv: Certificate,
     today: Day,
     which: Issuer,
-    name: Name,
-    certificate: Certificate,
+    brought: Brought,
 ) -> Ending
-    ensures { λ r. ⌜ r ≡ underEnding points dv today which name certificate ⌝ }
+    ensures { λ r. ⌜ r ≡ underEnding points dv today which brought ⌝ }
 {
+    let name = brought.name;
+    let certificate = brought.certificate;
     let own = certificate.name;
     let rights = certificate.rights;
     let issuer = points.issuer(which, dv);
@@ -78,22 +79,13 @@ fn under_ending(
     order::verify(!placed, repeated, !named, past, taken)
 }
 
-fn under(
-    points: Points,
-    dv: Certificate,
-    today: Day,
-    issuer: Issuer,
-    name: Name,
-    certificate: Certificate,
-) -> Plan
-    ensures { λ r. ⌜ r ≡ underPlan points dv today issuer name certificate ⌝ }
+fn under(points: Points, dv: Certificate, today: Day, issuer: Issuer, brought: Brought) -> Plan
+    ensures { λ r. ⌜ r ≡ underPlan points dv today issuer brought ⌝ }
 {
-    let ending = under_ending(points, dv, today, issuer, name, certificate);
-    let none = Key::none();
+    let ending = under_ending(points, dv, today, issuer, brought);
     Plan {
         ending: ending,
-        certificate: certificate,
-        key: none,
+        brought: brought,
     }
 }
 
@@ -102,13 +94,12 @@ pub fn verify(
     dv: Certificate,
     today: Day,
     selected: Selected,
-    name: Name,
-    certificate: Certificate,
+    brought: Brought,
 ) -> Plan
-    ensures { λ r. ⌜ r ≡ verifyPlan points dv today selected name certificate ⌝ }
+    ensures { λ r. ⌜ r ≡ verifyPlan points dv today selected brought ⌝ }
 {
     match selected {
-        Selected::Of(issuer) => under(points, dv, today, issuer, name, certificate),
+        Selected::Of(issuer) => under(points, dv, today, issuer, brought),
         Selected::NoIssuer => Plan::settled(Event::Refused(Refusal::Moment)),
     }
 }

@@ -5,11 +5,11 @@ use mathlib.Core.Bool.{Bool, true, false, not, _&&_, _||_}
 use mathlib.Core.Path.{_≡_, sym, ap, _∙_}
 use lib.Dec.{eqb}
 use Rattle.names.specs.Names.{sameName}
-use Rattle.certificate.specs.Certificate.{noCertificate}
+use Rattle.brought.specs.Brought.{broughtNone, withAnnounced}
 use Rattle.rights.specs.Rights.{hasRight, readsGroup, pinManagement}
 use Rattle.names.specs.declared.Name.{Name}
 use Rattle.keys.specs.declared.Key.{Key}
-use Rattle.certificate.specs.declared.Certificate.{Certificate}
+use Rattle.brought.specs.declared.Brought.{Brought}
 use Rattle.rights.specs.declared.Rights.{Rights}
 use Rattle.run.specs.declared.Choice.{Choice}
 use Rattle.run.specs.declared.Password.{Password}
@@ -57,19 +57,19 @@ module _ (k : Key) (x : Content) where
   unfolding chipPlan
   chip-bad q r e z = rw e z
 
-  pub chip-good : (n : Certificate) → x ≡ Chip → n ≡ noCertificate → _≡_ {A = Plan} (record { ending = Awaits ChipKey IsAuthenticated ChipLost; certificate = n; key = k }) (chipPlan k x)
+  pub chip-good : (n b : Brought) → x ≡ Chip → n ≡ broughtNone → b ≡ withAnnounced n k → _≡_ {A = Plan} (record { ending = Awaits ChipKey IsAuthenticated ChipLost; brought = b }) (chipPlan k x)
   unfolding chipPlan
-  chip-good n e f = rw (e, f)
+  chip-good n b e f g = rw (e, g, f)
 
 pub general-arm : (k : Key) (pin : ℕ) (x : Content) (s d : Stage) (r : Plan) → s ≡ d → r ≡ generalPlan k pin d x → r ≡ generalPlan k pin s x
 general-arm k pin x s d r e f = f ∙ ap (λ (y : Stage). generalPlan k pin y x) (sym e)
 
-module _ (t n : Name) (k : Key) (b : Bool) (e : b ≡ sameName n t) where
-  pub announce-good : (p : Certificate) → b ≡ true → p ≡ noCertificate → _≡_ {A = Plan} (record { ending = Settled IsAnnounced; certificate = p; key = k }) (announcePlan t n k)
+module _ (t : Name) (x : Brought) (b : Bool) (e : b ≡ sameName (x .name) t) where
+  pub announce-good : b ≡ true → _≡_ {A = Plan} (record { ending = Settled IsAnnounced; brought = x }) (announcePlan t x)
   unfolding announcePlan
-  announce-good p h f = rw (← e, h, f)
+  announce-good h = rw (← e, h)
 
-  pub announce-bad : (r : Plan) → b ≡ false → r ≡ settledBy (Refused NotFound) → r ≡ announcePlan t n k
+  pub announce-bad : (r : Plan) → b ≡ false → r ≡ settledBy (Refused NotFound) → r ≡ announcePlan t x
   unfolding announcePlan
   announce-bad r h z = rw (← e, h) z
 

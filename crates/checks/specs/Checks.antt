@@ -3,10 +3,11 @@ use Prim.Native.Nat.{ℕ}
 use mathlib.Core.Bool.{Bool, false, cond, not, _&&_, _||_}
 use lib.Dec.{eqb}
 use Rattle.names.specs.Names.{sameName}
-use Rattle.certificate.specs.Certificate.{noCertificate}
+use Rattle.brought.specs.Brought.{broughtNone, withAnnounced}
 use Rattle.rights.specs.Rights.{hasRight, readsGroup, pinManagement}
 use Rattle.names.specs.declared.Name.{Name}
 use Rattle.keys.specs.declared.Key.{Key}
+use Rattle.brought.specs.declared.Brought.{Brought}
 use Rattle.run.specs.declared.Choice.{Choice}
 use Rattle.run.specs.declared.Step.{Step}
 use Rattle.run.specs.Run.{passwordOf, isPin, isPuk, stepNumber, tries}
@@ -62,7 +63,7 @@ runPlan pin c p x = cond (not (isFor x p)) (settledBy (Refused Data)) (awaitsBy 
 
 unfoldable pub chipPlan : Key → Content → Plan
 chipPlan announced (StepData q) = settledBy (Refused Data)
-chipPlan announced Chip = record { ending = Awaits ChipKey IsAuthenticated ChipLost; certificate = noCertificate; key = announced }
+chipPlan announced Chip = record { ending = Awaits ChipKey IsAuthenticated ChipLost; brought = withAnnounced broughtNone announced }
 
 -- 86 is a run step in a run, and the chip key's when one is chosen
 unfoldable pub generalPlan : Key → ℕ → Stage → Content → Plan
@@ -77,8 +78,8 @@ generalPlan announced pin Authenticated x = settledBy (Refused Moment)
 
 -- ---- Announce: "83 the chain's terminal (6A88)"
 
-unfoldable pub announcePlan : Name → Name → Key → Plan
-announcePlan terminal n k = cond (sameName n terminal) (record { ending = Settled IsAnnounced; certificate = noCertificate; key = k }) (settledBy (Refused NotFound))
+unfoldable pub announcePlan : Name → Brought → Plan
+announcePlan terminal b = cond (sameName (b .name) terminal) (record { ending = Settled IsAnnounced; brought = b }) (settledBy (Refused NotFound))
 
 -- ---- Read: "9000 without data, or 6982"
 

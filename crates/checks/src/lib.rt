@@ -5,7 +5,7 @@ ghost use Rattle.event.specs.declared.Event.the-variants.{Refused};
 ghost use Rattle.event.specs.declared.Refusal.the-variants.{Data};
 ghost use Rattle.checks.specs.Checks.{isFor, choosePlan, runPlan, chipPlan, generalPlan, announcePlan, readPlan, changePlan, unblockPlan, activePlan};
 use authorization::authorization;
-use certificate::Certificate;
+use brought::Brought;
 use event::Event;
 use event::Refusal;
 use fields::asked::Content;
@@ -74,11 +74,10 @@ fn chip_key(key: Key, content: Content) -> Plan
     match content {
         Content::Step(_) => bad_data(),
         Content::Chip => {
-            let none = Certificate::none();
+            let brought = Brought::none().with_announced(key);
             Plan {
                 ending: Ending::Awaits(Job::ChipKey, Event::Authenticated, Event::ChipLost),
-                certificate: none,
-                key: key,
+                brought: brought,
             }
         }
     }
@@ -100,15 +99,14 @@ pub fn general(context: Context, pin: u8, content: Content) -> Plan
     }
 }
 
-pub fn announce(terminal: Name, name: Name, key: Key) -> Plan
-    ensures { λ r. ⌜ r ≡ announcePlan terminal name key ⌝ }
+pub fn announce(terminal: Name, brought: Brought) -> Plan
+    ensures { λ r. ⌜ r ≡ announcePlan terminal brought ⌝ }
 {
-    let none = Certificate::none();
+    let name = brought.name;
     if name.same(terminal) {
         return Plan {
             ending: Ending::Settled(Event::Announced),
-            certificate: none,
-            key: key,
+            brought: brought,
         };
     }
     Plan::settled(Event::Refused(Refusal::NotFound))

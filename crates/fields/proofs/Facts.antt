@@ -1,4 +1,4 @@
--- What may be relied on of what a command asks: what is named is within document 01's limits, and kind and ask agree.
+-- What may be relied on of what a command asks: what it brings is within document 01's limits, and kind and ask agree.
 -- Assumes nothing.
 use Prim.Native.Nat.{ℕ, _≤_}
 use mathlib.Core.Path.{_≡_, refl, subst}
@@ -11,17 +11,17 @@ use Rattle.objects.specs.Objects.{part, objectsIn, foundIn}
 use Rattle.objects.specs.Chain.{taken, any}
 use Rattle.objects.proofs.Chain.{taken-all, answered-all}
 use Rattle.strings.specs.Bytes.{allOf, longest}
-use Rattle.names.specs.Names.{isName, nameOf, noName, nameFits}
-use Rattle.certificate.specs.Certificate.{noCertificate, certificateFits}
-use Rattle.keys.specs.Keys.{isKey, keyOf, noKey, keyFits, keyStands}
+use Rattle.names.specs.Names.{isName, nameOf, nameFits}
+use Rattle.certificate.specs.Certificate.{certificateFits}
+use Rattle.keys.specs.Keys.{isKey, keyOf, keyFits, keyStands}
+use Rattle.brought.specs.Brought.{broughtNone}
 use Rattle.rights.specs.Rights.{isRights, rightsOf, granted, rightsFit}
 use Rattle.names.proofs.Kept.{name-good}
 use Rattle.keys.proofs.Kept.{key-good, key-there}
 use Rattle.rights.proofs.Kept.{rights-good}
 use Rattle.strings.specs.declared.Class.the-variants.{Numeral}
 use Rattle.names.specs.declared.Name.{Name}
-use Rattle.certificate.specs.declared.Certificate.{Certificate}
-use Rattle.keys.specs.declared.Key.{Key}
+use Rattle.brought.specs.declared.Brought.{Brought}
 use Rattle.rights.specs.declared.Rights.{Rights}
 use Rattle.rights.specs.declared.Granted.the-variants.{These, NoRights}
 use Rattle.run.specs.Run.{rightsNamed}
@@ -76,29 +76,29 @@ pub data Of : Kind → Ask → Type 0 where
 abbrev pub RightsIn : Choice → Type 0
 RightsIn c = (r : Rights) → rightsNamed c ≡ These r → rightsFit r ≡ true
 
--- what is named with each ask is within its limits
-abbrev pub Within : Ask → Name → Certificate → Key → Type 0
-Within Bad n p k = Unit {0}
-Within (Choose c) n p k = RightsIn c
-Within (General c) n p k = Unit {0}
-Within Select n p k = nameFits n ≡ true
-Within Verify n p k = (certificateFits p ≡ true) × (nameFits n ≡ true)
-Within Announce n p k = (keyFits k ≡ true) × (keyStands k ≡ true) × (nameFits n ≡ true)
-Within Challenge n p k = Unit {0}
-Within Prove n p k = Unit {0}
-Within ChooseChipKey n p k = Unit {0}
-Within (Read n) m p k = (1 ≤ n) × (n ≤ 21)
-Within ChangePin n p k = Unit {0}
-Within Unblock n p k = Unit {0}
-Within Activate n p k = Unit {0}
-Within Deactivate n p k = Unit {0}
+-- what is brought with each ask is within its limits
+abbrev pub Within : Ask → Brought → Type 0
+Within Bad b = Unit {0}
+Within (Choose c) b = RightsIn c
+Within (General c) b = Unit {0}
+Within Select b = nameFits (b .name) ≡ true
+Within Verify b = (certificateFits (b .certificate) ≡ true) × (nameFits (b .name) ≡ true)
+Within Announce b = (keyFits (b .key) ≡ true) × (keyStands (b .key) ≡ true) × (nameFits (b .name) ≡ true)
+Within Challenge b = Unit {0}
+Within Prove b = Unit {0}
+Within ChooseChipKey b = Unit {0}
+Within (Read n) b = (1 ≤ n) × (n ≤ 21)
+Within ChangePin b = Unit {0}
+Within Unblock b = Unit {0}
+Within Activate b = Unit {0}
+Within Deactivate b = Unit {0}
 
 record Sound (k : Kind) (g : Given) : Type 0 where
   of : Of k (g .ask)
-  limits : Within (g .ask) (g .name) (g .certificate) (g .key)
+  limits : Within (g .ask) (g .brought)
 
--- with nothing named
-only-sound : (k : Kind) (a : Ask) → Of k a → Within a noName noCertificate noKey → Sound k (only a)
+-- with nothing brought
+only-sound : (k : Kind) (a : Ask) → Of k a → Within a broughtNone → Sound k (only a)
 unfolding only
 only-sound k a h w = record { of = h; limits = w }
 
@@ -263,23 +263,23 @@ data-sound KindActivate h s = only-sound KindActivate Activate of-activate tt
 data-sound KindDeactivate h s = only-sound KindDeactivate Deactivate of-deactivate tt
 
 module _ (s : List ℕ) (k : Kind) (b : Bool) (x : Ask) (e : askedOf s .request ≡ Asks k b x) where
-  asked-sound : Of k x × Within x (askedOf s .name) (askedOf s .certificate) (askedOf s .key)
+  asked-sound : Of k x × Within x (askedOf s .brought)
   unfolding askedOf refusing asking
   asked-sound = go (shapeOf s) (shape-in s) e
     where
-      go : (h : Shape) → ShapeIn h → askedBy s h .request ≡ Asks k b x → Of k x × Within x (askedBy s h .name) (askedBy s h .certificate) (askedBy s h .key)
+      go : (h : Shape) → ShapeIn h → askedBy s h .request ≡ Asks k b x → Of k x × Within x (askedBy s h .brought)
       go (Faulty f) i q = true-false cc
       go (Command j c m n) i q =
           let g = data-sound j i (part m n s) in
           let u : j ≡ k = cc in
           let v : dataOf j (part m n s) .ask ≡ x = cc in
           let d : Given = dataOf j (part m n s) in
-          (subst (λ (y : Kind). Of y x) u (subst (Of j) v (g .of)), subst (λ (y : Ask). Within y (d .name) (d .certificate) (d .key)) v (g .limits))
+          (subst (λ (y : Kind). Of y x) u (subst (Of j) v (g .of)), subst (λ (y : Ask). Within y (d .brought)) v (g .limits))
 
   -- kind and ask agree
   pub kind-of : Of k x
   kind-of = asked-sound .0
 
-  -- what is named is within its limits
-  pub within-limits : Within x (askedOf s .name) (askedOf s .certificate) (askedOf s .key)
+  -- what is brought is within its limits
+  pub within-limits : Within x (askedOf s .brought)
   within-limits = asked-sound .1

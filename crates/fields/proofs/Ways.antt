@@ -28,14 +28,15 @@ use Rattle.objects.proofs.Fuel.{objects-none}
 use Rattle.objects.proofs.Chain.{rest, found-start, found-end, nest-counts, nest-refused, counted-plus}
 use Rattle.strings.specs.Bytes.{among, allOf, longest}
 use Rattle.strings.specs.declared.Class.the-variants.{Numeral}
-use Rattle.names.specs.Names.{isName, noName, nameOf}
-use Rattle.certificate.specs.Certificate.{noCertificate}
-use Rattle.keys.specs.Keys.{noKey, keyOf}
+use Rattle.names.specs.Names.{isName, nameOf}
+use Rattle.keys.specs.Keys.{keyOf}
+use Rattle.brought.specs.Brought.{broughtNone, withName, withCertificate, withAnnounced}
 use Rattle.rights.specs.Rights.{isRights, granted, rightsOf}
 use Rattle.bodies.proofs.Contents.{rights-count}
 use Rattle.names.specs.declared.Name.{Name}
 use Rattle.certificate.specs.declared.Certificate.{Certificate}
 use Rattle.keys.specs.declared.Key.{Key}
+use Rattle.brought.specs.declared.Brought.{Brought}
 use Rattle.rights.specs.declared.Rights.{Rights}
 use Rattle.rights.specs.declared.Granted.{Granted}
 use Rattle.rights.specs.declared.Granted.the-variants.{These, NoRights}
@@ -246,26 +247,27 @@ pin-way s b x e y = y ∙ rw e
 
 -- ---- what is given
 
-module _ (n : Name) (p : Certificate) (k : Key) where
-  pub only-is : (a : Ask) → n ≡ noName → p ≡ noCertificate → k ≡ noKey → _≡_ {A = Given} (record { ask = a; name = n; certificate = p; key = k }) (only a)
+module _ (b : Brought) (e : b ≡ broughtNone) where
+  pub only-is : (a : Ask) → _≡_ {A = Given} (record { ask = a; brought = b }) (only a)
   unfolding only
-  only-is a e f g = rw (e, f, g)
+  only-is a = rw e
 
-  pub selecting-is : p ≡ noCertificate → k ≡ noKey → _≡_ {A = Given} (record { ask = Select; name = n; certificate = p; key = k }) (selecting n)
-  unfolding selecting
-  selecting-is f g = rw (f, g)
-
-  pub verifying-is : k ≡ noKey → _≡_ {A = Given} (record { ask = Verify; name = n; certificate = p; key = k }) (verifying n p)
-  unfolding verifying
-  verifying-is g = rw g
-
-  pub announcing-is : p ≡ noCertificate → _≡_ {A = Given} (record { ask = Announce; name = n; certificate = p; key = k }) (announcing n k)
-  unfolding announcing
-  announcing-is f = rw f
-
-  pub refusing-is : (r : Refusal) → n ≡ noName → p ≡ noCertificate → k ≡ noKey → _≡_ {A = Asked} (record { request = Refuses r; name = n; certificate = p; key = k }) (refusing r)
+  pub refusing-is : (r : Refusal) → _≡_ {A = Asked} (record { request = Refuses r; brought = b }) (refusing r)
   unfolding refusing
-  refusing-is r e f g = rw (e, f, g)
+  refusing-is r = rw e
+
+  module _ (n : Name) (d : Brought) (f : d ≡ withName b n) where
+    pub selecting-is : _≡_ {A = Given} (record { ask = Select; brought = d }) (selecting n)
+    unfolding selecting
+    selecting-is = rw (f, e)
+
+    pub verifying-is : (p : Certificate) (g : Brought) → g ≡ withCertificate d p → _≡_ {A = Given} (record { ask = Verify; brought = g }) (verifying n p)
+    unfolding verifying
+    verifying-is p g h = rw (h, f, e)
+
+    pub announcing-is : (k : Key) (g : Brought) → g ≡ withAnnounced d k → _≡_ {A = Given} (record { ask = Announce; brought = g }) (announcing n k)
+    unfolding announcing
+    announcing-is k g h = rw (h, f, e)
 
 pub select-on : (c : List ℕ) (n : Name) (x : Given) → n ≡ nameOf c → x ≡ selecting n → x ≡ selecting (nameOf c)
 select-on c n x e y = y ∙ ap selecting e

@@ -3,9 +3,7 @@ use Prim.Native.Nat.{ℕ}
 use mathlib.Core.List.{List}
 use mathlib.Core.Bool.{Bool}
 use Rattle.objects.specs.Objects.{part}
-use Rattle.names.specs.Names.{noName}
-use Rattle.certificate.specs.Certificate.{noCertificate}
-use Rattle.keys.specs.Keys.{noKey}
+use Rattle.brought.specs.Brought.{broughtNone}
 use Rattle.command.specs.Shape.{shapeOf}
 use Rattle.command.specs.declared.kind.Kind.{Kind}
 use Rattle.command.specs.declared.kind.Kind.the-variants.{ChoosePassword, General, SelectIssuer, VerifyCertificate, Announce, Challenge, ProveTerminal, ChooseChipKey, Read, ChangePin, Unblock, Activate, Deactivate}
@@ -52,10 +50,10 @@ dataOf Activate s = only AskActivate
 dataOf Deactivate s = only AskDeactivate
 
 unfoldable pub refusing : Refusal → Asked
-refusing r = record { request = Refused r; name = noName; certificate = noCertificate; key = noKey }
+refusing r = record { request = Refused r; brought = broughtNone }
 
 unfoldable pub asking : Kind → Bool → Given → Asked
-asking k chained g = record { request = Asks k chained (g .ask); name = g .name; certificate = g .certificate; key = g .key }
+asking k chained g = record { request = Asks k chained (g .ask); brought = g .brought }
 
 abbrev pub askedBy : List ℕ → Shape → Asked
 askedBy s (Faulty f) = refusing (faultOf f)

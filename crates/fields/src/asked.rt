@@ -1,9 +1,7 @@
 // What a command may ask for.
-use certificate::Certificate;
+use brought::Brought;
 use command::kind::Kind;
 use event::Refusal;
-use keys::Key;
-use names::Name;
 use run::Choice;
 use run::Step;
 
@@ -36,11 +34,8 @@ pub enum Request {
     Asks { kind: Kind, chained: bool, ask: Ask },
 }
 
-// A request with what it names: the name in 83 or a certificate's issuer, the certificate, the key announced; each `none()`
-// where the request names none.
+// A request with what is brought with it.
 pub struct Asked {
     pub request: Request,
-    pub name: Name,
-    pub certificate: Certificate,
-    pub key: Key,
+    pub brought: Brought,
 }

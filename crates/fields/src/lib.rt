@@ -4,14 +4,12 @@ ghost use Rattle.fields.specs.Asked.{askedOf, faultOf, dataOf, refusing,
 use asked::Ask;
 use asked::Asked;
 use asked::Request;
-use certificate::Certificate;
+use brought::Brought;
 use command::Fault;
 use command::Shape;
 use command::kind::Kind;
 use event::Refusal;
 use given::Given;
-use keys::Key;
-use names::Name;
 
 mod announce;
 pub mod asked;
@@ -60,14 +58,10 @@ fn data(kind: Kind, s: &[u8]) -> Given
 fn refused(r: Refusal) -> Asked
     ensures { λ a. ⌜ a ≡ refusing r ⌝ }
 {
-    let name = Name::none();
-    let certificate = Certificate::none();
-    let key = Key::none();
+    let brought = Brought::none();
     Asked {
         request: Request::Refused(r),
-        name: name,
-        certificate: certificate,
-        key: key,
+        brought: brought,
     }
 }
 
@@ -75,18 +69,14 @@ fn asks(kind: Kind, chained: bool, g: Given) -> Asked
     ensures { λ a. ⌜ a ≡ asking kind chained g ⌝ }
 {
     let ask = g.ask;
-    let name = g.name;
-    let certificate = g.certificate;
-    let key = g.key;
+    let brought = g.brought;
     Asked {
         request: Request::Asks {
             kind: kind,
             chained: chained,
             ask: ask,
         },
-        name: name,
-        certificate: certificate,
-        key: key,
+        brought: brought,
     }
 }
 

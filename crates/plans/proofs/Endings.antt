@@ -1,11 +1,9 @@
--- Each arm of a match, and the plans' empty parts. Assumes nothing.
+-- Each arm of a match, and the plans with nothing brought. Assumes nothing.
 use borrow.Author.Needs.{needs}
 use mathlib.Core.Bool.{Bool}
 use mathlib.Core.Path.{_≡_, sym, ap, _∙_}
-use Rattle.certificate.specs.Certificate.{noCertificate}
-use Rattle.keys.specs.Keys.{noKey}
-use Rattle.certificate.specs.declared.Certificate.{Certificate}
-use Rattle.keys.specs.declared.Key.{Key}
+use Rattle.brought.specs.Brought.{broughtNone}
+use Rattle.brought.specs.declared.Brought.{Brought}
 use Rattle.event.specs.declared.Event.{Event}
 use Rattle.plans.specs.declared.Note.{Note}
 use Rattle.plans.specs.declared.Guard.{Guard}
@@ -23,13 +21,13 @@ job-arm x d r e z = z ∙ ap endingJob (sym e)
 
 -- ---- plans
 
-module _ (p : Certificate) (k : Key) (h : p ≡ noCertificate) (i : k ≡ noKey) where
-  pub settled-is : (e : Event) → _≡_ {A = Plan} (record { ending = Settled e; certificate = p; key = k }) (settledBy e)
+module _ (b : Brought) (h : b ≡ broughtNone) where
+  pub settled-is : (e : Event) → _≡_ {A = Plan} (record { ending = Settled e; brought = b }) (settledBy e)
   unfolding settledBy
-  settled-is e = rw (h, i)
+  settled-is e = rw h
 
-  pub awaits-is : (j : Job) (x y : Event) → _≡_ {A = Plan} (record { ending = Awaits j x y; certificate = p; key = k }) (awaitsBy j x y)
+  pub awaits-is : (j : Job) (x y : Event) → _≡_ {A = Plan} (record { ending = Awaits j x y; brought = b }) (awaitsBy j x y)
   unfolding awaitsBy
-  awaits-is j x y = rw (h, i)
+  awaits-is j x y = rw h
 
 pub ruleset endings = (guard-arm, job-arm, settled-is, awaits-is, needs)

@@ -1,8 +1,7 @@
 -- The ways a plan ends. Assumes nothing: these are definitions.
 use Prim.Native.Nat.{ℕ}
 use mathlib.Core.Bool.{Bool, cond}
-use Rattle.certificate.specs.Certificate.{noCertificate}
-use Rattle.keys.specs.Keys.{noKey}
+use Rattle.brought.specs.Brought.{broughtNone}
 use Rattle.event.specs.declared.Loss.the-variants.{Unprotected, Broken}
 use Rattle.run.specs.Run.{stepNumber}
 use Rattle.event.specs.declared.Event.{Event}
@@ -16,12 +15,12 @@ use Rattle.plans.specs.declared.Ending.{Ending}
 use Rattle.plans.specs.declared.Ending.the-variants.{Settled, Awaits}
 use Rattle.plans.specs.declared.Plan.{Plan}
 
--- with no certificate and no key
+-- with nothing brought
 unfoldable pub settledBy : Event → Plan
-settledBy e = record { ending = Settled e; certificate = noCertificate; key = noKey }
+settledBy e = record { ending = Settled e; brought = broughtNone }
 
 unfoldable pub awaitsBy : Job → Event → Event → Plan
-awaitsBy j x y = record { ending = Awaits j x y; certificate = noCertificate; key = noKey }
+awaitsBy j x y = record { ending = Awaits j x y; brought = broughtNone }
 
 -- "6987 / 6988: plain while a session is open / broken, or protected with none open"
 abbrev pub guardOf : Note → Bool → Guard

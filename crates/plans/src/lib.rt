@@ -1,10 +1,9 @@
 // The ways a plan ends, the jobs it may want, and what a note does to a session.
 ghost use mathlib.Core.Path.{_≡_};
 ghost use Rattle.plans.specs.Plans.{settledBy, awaitsBy, guardOf, endingJob, jobNumber};
-use certificate::Certificate;
+use brought::Brought;
 use event::Event;
 use event::Loss;
-use keys::Key;
 use run::Step;
 
 // How a command came.
@@ -31,11 +30,10 @@ pub enum Ending {
     Awaits(Job, Event, Event),
 }
 
-// How a plan ends, with the certificate that was read and the key that was announced or is to be compared.
+// How a plan ends, with what was brought: the certificate that was read, the key that was announced or is to be compared.
 pub struct Plan {
     pub ending: Ending,
-    pub certificate: Certificate,
-    pub key: Key,
+    pub brought: Brought,
 }
 
 // Whether a note lets a command pass.
@@ -78,29 +76,25 @@ impl Ending {
 }
 
 impl Plan {
-    // Settled, with no certificate and no key.
+    // Settled, with nothing brought.
     pub fn settled(e: Event) -> Self
         ensures { λ r. ⌜ r ≡ settledBy e ⌝ }
     {
-        let p = Certificate::none();
-        let k = Key::none();
+        let b = Brought::none();
         Plan {
             ending: Ending::Settled(e),
-            certificate: p,
-            key: k,
+            brought: b,
         }
     }
 
-    // A job, with no certificate and no key.
+    // A job, with nothing brought.
     pub fn awaits(job: Job, passed: Event, otherwise: Event) -> Self
         ensures { λ r. ⌜ r ≡ awaitsBy job passed otherwise ⌝ }
     {
-        let p = Certificate::none();
-        let k = Key::none();
+        let b = Brought::none();
         Plan {
             ending: Ending::Awaits(job, passed, otherwise),
-            certificate: p,
-            key: k,
+            brought: b,
         }
     }
 }

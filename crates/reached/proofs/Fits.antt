@@ -8,14 +8,13 @@ use lib.ListN.{length}
 use borrow.Author.Tests.{not-false}
 use Rattle.laws.proofs.Bools.{true-false, and-l, and-7, or-l, of-both}
 use Rattle.names.specs.Names.{sameName}
-use Rattle.certificate.specs.Certificate.{noCertificate, withKey}
+use Rattle.brought.specs.Brought.{broughtNone}
 use Rattle.days.specs.Days.{dayFits}
-use Rattle.keys.specs.Keys.{noKey, keyIs}
 use Rattle.rights.specs.Rights.{roleOf, readsGroup}
 use Rattle.roles.specs.Roles.{isDv}
 use Rattle.names.specs.declared.Name.{Name}
-use Rattle.keys.specs.declared.Key.{Key}
 use Rattle.certificate.specs.declared.Certificate.{Certificate}
+use Rattle.brought.specs.declared.Brought.{Brought}
 use Rattle.roles.specs.declared.Role.{Role}
 use Rattle.roles.specs.declared.Role.the-variants.{Cvca, OfficialDv, OtherDv, Terminal}
 use Rattle.command.specs.declared.kind.Kind.{Kind}
@@ -34,12 +33,13 @@ use Rattle.plans.specs.declared.Note.{Note}
 use Rattle.plans.specs.declared.Guard.{Guard}
 use Rattle.plans.specs.declared.Guard.the-variants.{Passes, Drops}
 use Rattle.plans.specs.declared.Job.{Job}
-use Rattle.plans.specs.declared.Job.the-variants.{Step as StepJob, Challenge as ChallengeJob, Proof, PinChange}
+use Rattle.plans.specs.declared.Job.the-variants.{Step as StepJob, Certificate as CertificateJob, Challenge as ChallengeJob, Proof, PinChange}
 use Rattle.plans.specs.declared.Ending.{Ending}
 use Rattle.plans.specs.declared.Ending.the-variants.{Settled, Awaits}
 use Rattle.plans.specs.declared.Plan.{Plan}
 use Rattle.verdicts.specs.declared.Happened.{Happened}
 use Rattle.plans.specs.Plans.{settledBy, awaitsBy, guardOf}
+use Rattle.keys.specs.Keys.{keyIs}
 use Rattle.verdicts.specs.Verdicts.{matches, takenIn, endsBy, passesBy}
 use Rattle.verdicts.proofs.Decisions.{decided-all}
 use Rattle.order.specs.Order.{chooseLadder, verifyLadder, unblockLadder}
@@ -97,35 +97,35 @@ pub data Quiet : Ask → Type 0 where
   changing : Quiet ChangePin
 
 -- the second string is what the chip key is compared with
-pub data Fits (t : Token) (a : Asked) (z : List ℕ) : Event → Certificate → Key → Type 0 where
-  is-refused : {w : Refusal} {p : Certificate} {k : Key} → Fits t a z (Refused w) p k
-  is-lost : {l : Loss} {p : Certificate} {k : Key} → Fits t a z (Lost l) p k
-  is-chosen : {m : Kind} {ch : Bool} {c : Choice} {p : Certificate} {k : Key} → a .request ≡ Asks m ch (Choose c) → isPin (passwordOf c) && eqb (t .pin) 0 ≡ false → Fits t a z (Chosen c (t .pin)) p k
-  is-stepped : {m : Kind} {ch : Bool} {c : Choice} {s : Step} {p : Certificate} {k : Key} → a .request ≡ Asks m ch (General (StepData s)) → contextOf t .stage ≡ Run c s → isLast s ≡ false → Fits t a z (StepPassed c s) p k
-  is-opened : {m : Kind} {ch : Bool} {c : Choice} {s : Step} {p : Certificate} {k : Key} → a .request ≡ Asks m ch (General (StepData s)) → contextOf t .stage ≡ Run c s → isLast s ≡ true → Fits t a z (IsOpened c) p k
-  is-run-closed : {m : Kind} {ch : Bool} {x : Step} {c : Choice} {s : Step} {p : Certificate} {k : Key} → a .request ≡ Asks m ch (General (StepData x)) → contextOf t .stage ≡ Run c s → Fits t a z RunClosed p k
-  is-trial-lost : {m : Kind} {ch : Bool} {x : Step} {c : Choice} {s : Step} {p : Certificate} {k : Key} → a .request ≡ Asks m ch (General (StepData x)) → contextOf t .stage ≡ Run c s → Fits t a z (TrialLost (t .pin - 1)) p k
-  is-selected : {m : Kind} {ch : Bool} {i : Issuer} {p : Certificate} {k : Key} → a .request ≡ Asks m ch Select → Selects t i → Fits t a z (IsSelected i) p k
-  is-link-taken : (n : ℕ) {m : Kind} {ch : Bool} {k : Key} → a .request ≡ Asks m ch Verify → certifying t ≡ true → roleOf (a .certificate .rights) ≡ Cvca → knows (t .points) (a .certificate .name) ≡ false
-      → Fits t a z LinkTaken (withKey (a .certificate) n) k
-  is-dv-taken : (n : ℕ) {m : Kind} {ch : Bool} {h : Certificate} {k : Key} → a .request ≡ Asks m ch Verify → certifying t ≡ true → isDv (roleOf (a .certificate .rights)) ≡ true → knows (t .points) (a .certificate .name) ≡ false
-      → Holds (t .points) h → sameName (a .name) (h .name) ≡ true → Fits t a z (DvTaken (h .rights)) (withKey (a .certificate) n) k
-  is-terminal-taken : (n : ℕ) {m : Kind} {ch : Bool} {k : Key} → a .request ≡ Asks m ch Verify → certifying t ≡ true → roleOf (a .certificate .rights) ≡ Terminal → hasDv (chainOf t) ≡ true
-      → sameName (a .name) (chainOf t .dv .name) ≡ true → Fits t a z TerminalTaken (withKey (a .certificate) n) k
-  is-announced : {m : Kind} {ch : Bool} {p : Certificate} → a .request ≡ Asks m ch Announce → hasTerminal (chainOf t) && unproven (contextOf t .stage) ≡ true → Fits t a z IsAnnounced p (a .key)
-  is-challenged : {m : Kind} {ch : Bool} {p : Certificate} {k : Key} → a .request ≡ Asks m ch Challenge → isAnnounced (contextOf t .stage) || isChallenged (contextOf t .stage) ≡ true → Fits t a z IsChallenged p k
-  is-proven : {m : Kind} {ch : Bool} {p : Certificate} {k : Key} → a .request ≡ Asks m ch Prove → isChallenged (contextOf t .stage) ≡ true → Fits t a z IsProven p k
-  is-proof-lost : {m : Kind} {ch : Bool} {p : Certificate} {k : Key} → a .request ≡ Asks m ch Prove → isChallenged (contextOf t .stage) ≡ true → Fits t a z ProofLost p k
-  is-chip-key-chosen : {m : Kind} {ch : Bool} {p : Certificate} {k : Key} → a .request ≡ Asks m ch ChooseChipKey → isProven (contextOf t .stage) || isChosen (contextOf t .stage) ≡ true → Fits t a z IsChosen p k
-  is-authenticated : {m : Kind} {ch : Bool} {p : Certificate} {k : Key} → a .request ≡ Asks m ch (General Chip) → contextOf t .stage ≡ ChipKeyChosen → keyIs (contextOf t .key) z ≡ true → Fits t a z IsAuthenticated p k
-  is-chip-lost : {m : Kind} {ch : Bool} {p : Certificate} {k : Key} → a .request ≡ Asks m ch (General Chip) → contextOf t .stage ≡ ChipKeyChosen → Fits t a z ChipLost p k
-  not-passed : {m : Kind} {ch : Bool} {x : Ask} {p : Certificate} {k : Key} → a .request ≡ Asks m ch x → Quiet x → Fits t a z NotPassed p k
-  is-read : {m : Kind} {ch : Bool} {n : ℕ} {p : Certificate} {k : Key} → a .request ≡ Asks m ch (Read n) → Fits t a z ReadAllowed p k
-  is-changed : {m : Kind} {ch : Bool} {p : Certificate} {k : Key} → a .request ≡ Asks m ch ChangePin → Fits t a z PinChanged p k
-  is-unblocked-puk : {m : Kind} {ch : Bool} {p : Certificate} {k : Key} → a .request ≡ Asks m ch Unblock → Fits t a z UnblockedByPuk p k
-  is-unblocked : {m : Kind} {ch : Bool} {p : Certificate} {k : Key} → a .request ≡ Asks m ch Unblock → Fits t a z UnblockedByRight p k
-  is-activated : {m : Kind} {ch : Bool} {p : Certificate} {k : Key} → a .request ≡ Asks m ch Activate → Fits t a z Activated p k
-  is-deactivated : {m : Kind} {ch : Bool} {p : Certificate} {k : Key} → a .request ≡ Asks m ch Deactivate → Fits t a z Deactivated p k
+pub data Fits (t : Token) (a : Asked) (z : List ℕ) : Event → Brought → Type 0 where
+  is-refused : {w : Refusal} {b : Brought} → Fits t a z (Refused w) b
+  is-lost : {l : Loss} {b : Brought} → Fits t a z (Lost l) b
+  is-chosen : {m : Kind} {ch : Bool} {c : Choice} {b : Brought} → a .request ≡ Asks m ch (Choose c) → isPin (passwordOf c) && eqb (t .pin) 0 ≡ false → Fits t a z (Chosen c (t .pin)) b
+  is-stepped : {m : Kind} {ch : Bool} {c : Choice} {s : Step} {b : Brought} → a .request ≡ Asks m ch (General (StepData s)) → contextOf t .stage ≡ Run c s → isLast s ≡ false → Fits t a z (StepPassed c s) b
+  is-opened : {m : Kind} {ch : Bool} {c : Choice} {s : Step} {b : Brought} → a .request ≡ Asks m ch (General (StepData s)) → contextOf t .stage ≡ Run c s → isLast s ≡ true → Fits t a z (IsOpened c) b
+  is-run-closed : {m : Kind} {ch : Bool} {x : Step} {c : Choice} {s : Step} {b : Brought} → a .request ≡ Asks m ch (General (StepData x)) → contextOf t .stage ≡ Run c s → Fits t a z RunClosed b
+  is-trial-lost : {m : Kind} {ch : Bool} {x : Step} {c : Choice} {s : Step} {b : Brought} → a .request ≡ Asks m ch (General (StepData x)) → contextOf t .stage ≡ Run c s → Fits t a z (TrialLost (t .pin - 1)) b
+  is-selected : {m : Kind} {ch : Bool} {i : Issuer} {b : Brought} → a .request ≡ Asks m ch Select → Selects t i → Fits t a z (IsSelected i) b
+  is-link-taken : (n : ℕ) {m : Kind} {ch : Bool} → a .request ≡ Asks m ch Verify → certifying t ≡ true → roleOf (a .brought .certificate .rights) ≡ Cvca → knows (t .points) (a .brought .certificate .name) ≡ false
+      → Fits t a z LinkTaken (takenIn CertificateJob (a .brought) n)
+  is-dv-taken : (n : ℕ) {m : Kind} {ch : Bool} {h : Certificate} → a .request ≡ Asks m ch Verify → certifying t ≡ true → isDv (roleOf (a .brought .certificate .rights)) ≡ true → knows (t .points) (a .brought .certificate .name) ≡ false
+      → Holds (t .points) h → sameName (a .brought .name) (h .name) ≡ true → Fits t a z (DvTaken (h .rights)) (takenIn CertificateJob (a .brought) n)
+  is-terminal-taken : (n : ℕ) {m : Kind} {ch : Bool} → a .request ≡ Asks m ch Verify → certifying t ≡ true → roleOf (a .brought .certificate .rights) ≡ Terminal → hasDv (chainOf t) ≡ true
+      → sameName (a .brought .name) (chainOf t .dv .name) ≡ true → Fits t a z TerminalTaken (takenIn CertificateJob (a .brought) n)
+  is-announced : {m : Kind} {ch : Bool} → a .request ≡ Asks m ch Announce → hasTerminal (chainOf t) && unproven (contextOf t .stage) ≡ true → Fits t a z IsAnnounced (a .brought)
+  is-challenged : {m : Kind} {ch : Bool} {b : Brought} → a .request ≡ Asks m ch Challenge → isAnnounced (contextOf t .stage) || isChallenged (contextOf t .stage) ≡ true → Fits t a z IsChallenged b
+  is-proven : {m : Kind} {ch : Bool} {b : Brought} → a .request ≡ Asks m ch Prove → isChallenged (contextOf t .stage) ≡ true → Fits t a z IsProven b
+  is-proof-lost : {m : Kind} {ch : Bool} {b : Brought} → a .request ≡ Asks m ch Prove → isChallenged (contextOf t .stage) ≡ true → Fits t a z ProofLost b
+  is-chip-key-chosen : {m : Kind} {ch : Bool} {b : Brought} → a .request ≡ Asks m ch ChooseChipKey → isProven (contextOf t .stage) || isChosen (contextOf t .stage) ≡ true → Fits t a z IsChosen b
+  is-authenticated : {m : Kind} {ch : Bool} {b : Brought} → a .request ≡ Asks m ch (General Chip) → contextOf t .stage ≡ ChipKeyChosen → keyIs (contextOf t .key) z ≡ true → Fits t a z IsAuthenticated b
+  is-chip-lost : {m : Kind} {ch : Bool} {b : Brought} → a .request ≡ Asks m ch (General Chip) → contextOf t .stage ≡ ChipKeyChosen → Fits t a z ChipLost b
+  not-passed : {m : Kind} {ch : Bool} {x : Ask} {b : Brought} → a .request ≡ Asks m ch x → Quiet x → Fits t a z NotPassed b
+  is-read : {m : Kind} {ch : Bool} {n : ℕ} {b : Brought} → a .request ≡ Asks m ch (Read n) → Fits t a z ReadAllowed b
+  is-changed : {m : Kind} {ch : Bool} {b : Brought} → a .request ≡ Asks m ch ChangePin → Fits t a z PinChanged b
+  is-unblocked-puk : {m : Kind} {ch : Bool} {b : Brought} → a .request ≡ Asks m ch Unblock → Fits t a z UnblockedByPuk b
+  is-unblocked : {m : Kind} {ch : Bool} {b : Brought} → a .request ≡ Asks m ch Unblock → Fits t a z UnblockedByRight b
+  is-activated : {m : Kind} {ch : Bool} {b : Brought} → a .request ≡ Asks m ch Activate → Fits t a z Activated b
+  is-deactivated : {m : Kind} {ch : Bool} {b : Brought} → a .request ≡ Asks m ch Deactivate → Fits t a z Deactivated b
 
 -- ---- a state within its limits, rung by rung
 
@@ -181,21 +181,21 @@ wantsVerdict Deactivated = false
 wantsVerdict NotPassed = false
 
 -- what comes without a verdict needs none
-data Ending·Fits (t : Token) (a : Asked) (z : List ℕ) (p : Certificate) (k : Key) : Ending → Type 0 where
-  at-once : {e : Event} → Fits t a z e p k → wantsVerdict e ≡ false → Ending·Fits t a z p k (Settled e)
-  in-time : {j : Job} {x y : Event} → (matches j k z ≡ true → (n : ℕ) → Fits t a z x (takenIn j p n) k) → Fits t a z y p k → wantsVerdict y ≡ false → Ending·Fits t a z p k (Awaits j x y)
+data Ending·Fits (t : Token) (a : Asked) (z : List ℕ) (b : Brought) : Ending → Type 0 where
+  at-once : {e : Event} → Fits t a z e b → wantsVerdict e ≡ false → Ending·Fits t a z b (Settled e)
+  in-time : {j : Job} {x y : Event} → (matches j (b .key) z ≡ true → (n : ℕ) → Fits t a z x (takenIn j b n)) → Fits t a z y b → wantsVerdict y ≡ false → Ending·Fits t a z b (Awaits j x y)
 
 -- what an ending gives without a good result
 abbrev pub without : Ending → Event
 without (Settled e) = e
 without (Awaits j x y) = y
 
-modest : {t : Token} {a : Asked} {z : List ℕ} {p : Certificate} {k : Key} {c : Ending} → Ending·Fits t a z p k c → wantsVerdict (without c) ≡ false
+modest : {t : Token} {a : Asked} {z : List ℕ} {b : Brought} {c : Ending} → Ending·Fits t a z b c → wantsVerdict (without c) ≡ false
 modest (at-once f w) = w
 modest (in-time f g w) = w
 
 abbrev Plan·Fits : Token → Asked → List ℕ → Plan → Type 0
-Plan·Fits t a z q = Ending·Fits t a z (q .certificate) (q .key) (q .ending)
+Plan·Fits t a z q = Ending·Fits t a z (q .brought) (q .ending)
 
 -- steps of one number are one step
 same-step : (p q : Step) → eqb (stepNumber p) (stepNumber q) ≡ true → p ≡ q
@@ -223,7 +223,7 @@ rung P false f g = g refl
 
 module _ (t : Token) (a : Asked) (z : List ℕ) where
   abbrev Bare : Event → Type 0
-  Bare e = Fits t a z e noCertificate noKey
+  Bare e = Fits t a z e broughtNone
 
   abbrev On : Event → Type 0
   On e = Bare e × (wantsVerdict e ≡ false)
@@ -238,7 +238,7 @@ module _ (t : Token) (a : Asked) (z : List ℕ) where
   refuses : (w : Refusal) → Plan·Fits t a z (settledBy (Refused w))
   refuses w = once (Refused w) refused
 
-  waits : (j : Job) (x y : Event) → (matches j noKey z ≡ true → (n : ℕ) → Fits t a z x (takenIn j noCertificate n) noKey) → On y → Plan·Fits t a z (awaitsBy j x y)
+  waits : (j : Job) (x y : Event) → (matches j (broughtNone .key) z ≡ true → (n : ℕ) → Fits t a z x (takenIn j broughtNone n)) → On y → Plan·Fits t a z (awaitsBy j x y)
   unfolding awaitsBy
   waits j x y f g = in-time f (g .0) (g .1)
 
@@ -261,8 +261,8 @@ module _ (t : Token) (a : Asked) (z : List ℕ) where
   choose-ways false false false true c n f = refused
   choose-ways false false false false c n f = f refl
 
-  verify-ways : (m r u l : Bool) (x : Event) → (m ≡ false → r ≡ false → u ≡ false → (n : ℕ) → Fits t a z x (withKey (a .certificate) n) noKey) → Fits t a z NotPassed (a .certificate) noKey
-      → Ending·Fits t a z (a .certificate) noKey (verifyLadder m r u l x)
+  verify-ways : (m r u l : Bool) (x : Event) → (m ≡ false → r ≡ false → u ≡ false → (n : ℕ) → Fits t a z x (takenIn CertificateJob (a .brought) n)) → Fits t a z NotPassed (a .brought)
+      → Ending·Fits t a z (a .brought) (verifyLadder m r u l x)
   verify-ways true r u l x f g = at-once is-refused refl
   verify-ways false true u l x f g = at-once is-refused refl
   verify-ways false false true l x f g = at-once is-refused refl
@@ -328,39 +328,39 @@ module _ (t : Token) (a : Asked) (z : List ℕ) where
 
     -- under each issuer, each role
     module _ (q : a .request ≡ Asks m ch Verify) (c : certifying t ≡ true) where
-      taken-fits : (i : Issuer) (o : Role) → roleOf (a .certificate .rights) ≡ o → selectable (Chose i) (t .points .two) (hasDv (chainOf t)) ≡ true → not (issues i o) ≡ false
-          → repeats (t .points) (chainOf t .dv) (a .certificate .name) o ≡ false → not (sameName (a .name) (issuerOf (t .points) i (chainOf t .dv) .name)) ≡ false
-          → (n : ℕ) → Fits t a z (takenEvent o (issuerOf (t .points) i (chainOf t .dv) .rights)) (withKey (a .certificate) n) noKey
+      taken-fits : (i : Issuer) (o : Role) → roleOf (a .brought .certificate .rights) ≡ o → selectable (Chose i) (t .points .two) (hasDv (chainOf t)) ≡ true → not (issues i o) ≡ false
+          → repeats (t .points) (chainOf t .dv) (a .brought .certificate .name) o ≡ false → not (sameName (a .brought .name) (issuerOf (t .points) i (chainOf t .dv) .name)) ≡ false
+          → (n : ℕ) → Fits t a z (takenEvent o (issuerOf (t .points) i (chainOf t .dv) .rights)) (takenIn CertificateJob (a .brought) n)
       unfolding repeats
-      taken-fits Newest Cvca r s e f g n = is-link-taken n q c r (or-l (knows (t .points) (a .certificate .name)) _ f)
-      taken-fits Newest OfficialDv r s e f g n = is-dv-taken n q c (rw r) (or-l (knows (t .points) (a .certificate .name)) _ f) as-newest (not-false _ g)
-      taken-fits Newest OtherDv r s e f g n = is-dv-taken n q c (rw r) (or-l (knows (t .points) (a .certificate .name)) _ f) as-newest (not-false _ g)
+      taken-fits Newest Cvca r s e f g n = is-link-taken n q c r (or-l (knows (t .points) (a .brought .certificate .name)) _ f)
+      taken-fits Newest OfficialDv r s e f g n = is-dv-taken n q c (rw r) (or-l (knows (t .points) (a .brought .certificate .name)) _ f) as-newest (not-false _ g)
+      taken-fits Newest OtherDv r s e f g n = is-dv-taken n q c (rw r) (or-l (knows (t .points) (a .brought .certificate .name)) _ f) as-newest (not-false _ g)
       taken-fits Newest Terminal r s e f g n = true-false e
-      taken-fits Previous Cvca r s e f g n = is-link-taken n q c r (or-l (knows (t .points) (a .certificate .name)) _ f)
-      taken-fits Previous OfficialDv r s e f g n = is-dv-taken n q c (rw r) (or-l (knows (t .points) (a .certificate .name)) _ f) (as-previous s) (not-false _ g)
-      taken-fits Previous OtherDv r s e f g n = is-dv-taken n q c (rw r) (or-l (knows (t .points) (a .certificate .name)) _ f) (as-previous s) (not-false _ g)
+      taken-fits Previous Cvca r s e f g n = is-link-taken n q c r (or-l (knows (t .points) (a .brought .certificate .name)) _ f)
+      taken-fits Previous OfficialDv r s e f g n = is-dv-taken n q c (rw r) (or-l (knows (t .points) (a .brought .certificate .name)) _ f) (as-previous s) (not-false _ g)
+      taken-fits Previous OtherDv r s e f g n = is-dv-taken n q c (rw r) (or-l (knows (t .points) (a .brought .certificate .name)) _ f) (as-previous s) (not-false _ g)
       taken-fits Previous Terminal r s e f g n = true-false e
       taken-fits Dv Cvca r s e f g n = true-false e
       taken-fits Dv OfficialDv r s e f g n = true-false e
       taken-fits Dv OtherDv r s e f g n = true-false e
       taken-fits Dv Terminal r s e f g n = is-terminal-taken n q c r s (not-false _ g)
 
-      under-fits : (i : Issuer) → selectable (Chose i) (t .points .two) (hasDv (chainOf t)) ≡ true → Plan·Fits t a z (underPlan (t .points) (chainOf t .dv) (t .today) i (a .name) (a .certificate))
+      under-fits : (i : Issuer) → selectable (Chose i) (t .points .two) (hasDv (chainOf t)) ≡ true → Plan·Fits t a z (underPlan (t .points) (chainOf t .dv) (t .today) i (a .brought))
       unfolding underPlan underEnding
       under-fits i s =
-          let o : Role = roleOf (a .certificate .rights) in
+          let o : Role = roleOf (a .brought .certificate .rights) in
           let h : Certificate = issuerOf (t .points) i (chainOf t .dv) in
-          verify-ways (not (issues i o)) (repeats (t .points) (chainOf t .dv) (a .certificate .name) o) (not (sameName (a .name) (h .name))) (late (t .today) (a .certificate) h o) (takenEvent o (h .rights)) (taken-fits i o refl s)
+          verify-ways (not (issues i o)) (repeats (t .points) (chainOf t .dv) (a .brought .certificate .name) o) (not (sameName (a .brought .name) (h .name))) (late (t .today) (a .brought .certificate) h o) (takenEvent o (h .rights)) (taken-fits i o refl s)
           (not-passed q verifying)
 
-      verify-fits : (s : Selected) → selectable s (t .points .two) (hasDv (chainOf t)) ≡ true → Plan·Fits t a z (verifyPlan (t .points) (chainOf t .dv) (t .today) s (a .name) (a .certificate))
+      verify-fits : (s : Selected) → selectable s (t .points .two) (hasDv (chainOf t)) ≡ true → Plan·Fits t a z (verifyPlan (t .points) (chainOf t .dv) (t .today) s (a .brought))
       unfolding verifyPlan
       verify-fits NoIssuer e = refuses Moment
       verify-fits (Chose i) e = under-fits i e
 
-    announce-fits : a .request ≡ Asks m ch Announce → hasTerminal (chainOf t) && unproven (contextOf t .stage) ≡ true → Plan·Fits t a z (announcePlan (chainOf t .terminal .name) (a .name) (a .key))
+    announce-fits : a .request ≡ Asks m ch Announce → hasTerminal (chainOf t) && unproven (contextOf t .stage) ≡ true → Plan·Fits t a z (announcePlan (chainOf t .terminal .name) (a .brought))
     unfolding announcePlan
-    announce-fits q e = of-both (Plan·Fits t a z) (sameName (a .name) (chainOf t .terminal .name)) (at-once (is-announced q e) refl) (refuses NotFound)
+    announce-fits q e = of-both (Plan·Fits t a z) (sameName (a .brought .name) (chainOf t .terminal .name)) (at-once (is-announced q e) refl) (refuses NotFound)
 
     read-fits : (n : ℕ) → a .request ≡ Asks m ch (Read n) → Plan·Fits t a z (readPlan (contextOf t) n)
     unfolding readPlan
@@ -381,7 +381,7 @@ module _ (t : Token) (a : Asked) (z : List ℕ) where
   command-fits l of-bad q e = refuses Data
   command-fits l (of-choose {c = c}) q e = choose-fits c q
   command-fits l (of-general {c = x}) q e = general-fits x (contextOf t .stage) q refl
-  command-fits l of-select q e = select-fits (a .name) q
+  command-fits l of-select q e = select-fits (a .brought .name) q
   command-fits l of-verify q e = verify-fits q (and-l (certifying t) (isSelected (t .session .selected)) e) (t .session .selected) (limits-of t l .chosen)
   command-fits l of-announce q e = announce-fits q e
   command-fits l of-challenge q e = waits ChallengeJob IsChallenged NotPassed (λ k n. is-challenged q e) (not-passed q challenging, refl)
@@ -419,10 +419,10 @@ pub plan-modest : (t : Token) (s : List ℕ) (note : Note) → wantsVerdict (wit
 plan-modest t s note = modest (plan-fits t s [] note)
 
 -- what happens fits
-pub fits : (t : Token) (x : Exchange) → let h = happenedOf t x in Fits t (askedOf (x .command)) (x .second) (h .event) (h .certificate) (h .key)
+pub fits : (t : Token) (x : Exchange) → let h = happenedOf t x in Fits t (askedOf (x .command)) (x .second) (h .event) (h .brought)
 unfolding endsBy passesBy
 fits t x =
-    decided-all (λ (h : Happened). Fits t a z (h .event) (h .certificate) (h .key)) q (x .result) (length (x .first)) z (λ e i. settled i f) (λ j u v i. otherwise i f)
+    decided-all (λ (h : Happened). Fits t a z (h .event) (h .brought)) q (x .result) (length (x .first)) z (λ e i. settled i f) (λ j u v i. otherwise i f)
     (λ j u v i g m n. passed n i m f)
   where
     a : Asked
@@ -437,18 +437,18 @@ fits t x =
     f : Plan·Fits t a z q
     f = plan-fits t (x .command) z (x .note)
 
-    settled : {c : Ending} {e : Event} → c ≡ Settled e → Ending·Fits t a z (q .certificate) (q .key) c → Fits t a z e (q .certificate) (q .key)
-    settled i (at-once g w) = subst (λ (y : Event). Fits t a z y (q .certificate) (q .key)) (cc) g
+    settled : {c : Ending} {e : Event} → c ≡ Settled e → Ending·Fits t a z (q .brought) c → Fits t a z e (q .brought)
+    settled i (at-once g w) = subst (λ (y : Event). Fits t a z y (q .brought)) (cc) g
     settled i (in-time g h w) = true-false (cc)
 
-    otherwise : {c : Ending} {j : Job} {u v : Event} → c ≡ Awaits j u v → Ending·Fits t a z (q .certificate) (q .key) c → Fits t a z v (q .certificate) (q .key)
+    otherwise : {c : Ending} {j : Job} {u v : Event} → c ≡ Awaits j u v → Ending·Fits t a z (q .brought) c → Fits t a z v (q .brought)
     otherwise i (at-once g w) = true-false (cc)
-    otherwise i (in-time g h w) = subst (λ (y : Event). Fits t a z y (q .certificate) (q .key)) (cc) h
+    otherwise i (in-time g h w) = subst (λ (y : Event). Fits t a z y (q .brought)) (cc) h
 
-    passed : {c : Ending} {j : Job} {u v : Event} (n : ℕ) → c ≡ Awaits j u v → matches j (q .key) z ≡ true → Ending·Fits t a z (q .certificate) (q .key) c → Fits t a z u (takenIn j (q .certificate) n) (q .key)
+    passed : {c : Ending} {j : Job} {u v : Event} (n : ℕ) → c ≡ Awaits j u v → matches j (q .brought .key) z ≡ true → Ending·Fits t a z (q .brought) c → Fits t a z u (takenIn j (q .brought) n)
     passed n i m (at-once g w) = true-false (cc)
     passed {j = j} {u = u} n i m (in-time {j = k} {x = y} g h w) =
         let e : k ≡ j = cc in
         let d : y ≡ u = cc in
-        subst (λ (l : Job). Fits t a z u (takenIn l (q .certificate) n) (q .key)) e
-        (subst (λ (v : Event). Fits t a z v (takenIn k (q .certificate) n) (q .key)) d (g (subst⁻¹ (λ (l : Job). matches l (q .key) z ≡ true) e m) n))
+        subst (λ (l : Job). Fits t a z u (takenIn l (q .brought) n)) e
+        (subst (λ (v : Event). Fits t a z v (takenIn k (q .brought) n)) d (g (subst⁻¹ (λ (l : Job). matches l (q .brought .key) z ≡ true) e m) n))

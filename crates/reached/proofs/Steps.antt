@@ -7,7 +7,7 @@ use lib.Dec.{eqb, ltb}
 use lib.ListN.{length, take}
 use Rattle.laws.proofs.Bools.{true-false}
 use Rattle.keys.specs.declared.Key.{Key}
-use Rattle.certificate.specs.declared.Certificate.{Certificate}
+use Rattle.brought.specs.declared.Brought.{Brought}
 use Rattle.run.specs.declared.Choice.{Choice}
 use Rattle.run.specs.declared.Step.the-variants.{Confirm}
 use Rattle.run.specs.Run.{passwordOf, isPin}
@@ -41,9 +41,9 @@ use Rattle.token.specs.Step.{Exchange, exchange, Stepped, happenedOf, nextOf, e
 
 -- ---- a refusal leaves the token as it was
 
-pub refused-same : (t : Token) (w : Refusal) (p : Certificate) (k : Key) → afterOf t (Refused w) p k ≡ t
+pub refused-same : (t : Token) (w : Refusal) (b : Brought) → afterOf t (Refused w) b ≡ t
 unfolding afterOf
-refused-same t w p k = refl
+refused-same t w b = refl
 
 pub step-refused : (t : Token) (x : Exchange) (w : Refusal) → happenedOf t x .event ≡ Refused w → stepOf t x .token ≡ t
 unfolding stepOf afterOf
@@ -54,7 +54,7 @@ step-refused t x w e = go (ltb (x .size) room)
 
     go : (b : Bool) → cond {A = Stepped} b (record { token = t; word = Outside; bytes = [] }) (endedBy t h x) .token ≡ t
     go true = refl
-    go false = ap (λ (y : Event). afterOf t y (h .certificate) (h .key)) e
+    go false = ap (λ (y : Event). afterOf t y (h .brought)) e
 
 -- ---- "where none, the result has no influence": on token, length and every byte
 
@@ -93,25 +93,25 @@ abbrev pub isGood : Job → Answered → Key → ℕ → List ℕ → Bool
 isGood j r k a s = (eqb (jobNumber j) (jobNumber (r .job)) && jobFits j a (length s)) && (isPassed (r .verdict) && matches j k s)
 
 module _ (p : Plan) (r : Answered) (j : Job) (x y : Event) (a : ℕ) (s : List ℕ) (e : p .ending ≡ Awaits j x y) where
-  judged : (v : Verdict) → isPassed v && matches j (p .key) s ≡ false → judgedOf p v j x y a s ≡ endsBy p y
+  judged : (v : Verdict) → isPassed v && matches j (p .brought .key) s ≡ false → judgedOf p v j x y a s ≡ endsBy p y
   unfolding judgedOf
   judged (Passed n) f = rw f
   judged Failed f = refl
   judged Missing f = refl
 
   -- a result that is not good takes the other event
-  pub decided-bad : isGood j r (p .key) a s ≡ false → decidedOf p r a s ≡ endsBy p y
+  pub decided-bad : isGood j r (p .brought .key) a s ≡ false → decidedOf p r a s ≡ endsBy p y
   unfolding endingOf awaitedOf
   decided-bad f = ap (λ (c : Ending). endingOf c p r a s) e ∙ go (eqb (jobNumber j) (jobNumber (r .job)) && jobFits j a (length s)) f
     where
-      go : (b : Bool) → b && (isPassed (r .verdict) && matches j (p .key) s) ≡ false → cond b (judgedOf p (r .verdict) j x y a s) (endsBy p y) ≡ endsBy p y
+      go : (b : Bool) → b && (isPassed (r .verdict) && matches j (p .brought .key) s) ≡ false → cond b (judgedOf p (r .verdict) j x y a s) (endsBy p y) ≡ endsBy p y
       go true g = judged (r .verdict) g
       go false g = refl
 
 -- "A missing verdict is never a good one": no session opens, no step passes, no certificate is accepted, no terminal proven, no
 -- chip authenticated and no PIN changed but by a result that is good for the job that was wanted
 pub earned : (t : Token) (x : Exchange) → wantsVerdict (happenedOf t x .event) ≡ true
-    → let p = planOf t (x .command) (x .note) in isGood (endingJob (p .ending)) (x .result) (p .key) (length (x .first)) (x .second) ≡ true
+    → let p = planOf t (x .command) (x .note) in isGood (endingJob (p .ending)) (x .result) (p .brought .key) (length (x .first)) (x .second) ≡ true
 unfolding endsBy endingOf
 earned t x e = go (p .ending) refl (plan-modest t (x .command) (x .note))
   where
@@ -119,7 +119,7 @@ earned t x e = go (p .ending) refl (plan-modest t (x .command) (x .note))
     p = planOf t (x .command) (x .note)
 
     good : Job → Bool
-    good j = isGood j (x .result) (p .key) (length (x .first)) (x .second)
+    good j = isGood j (x .result) (p .brought .key) (length (x .first)) (x .second)
 
     go : (c : Ending) → p .ending ≡ c → wantsVerdict (without c) ≡ false → good (endingJob c) ≡ true
     go (Settled y) q m = true-false (sym (sym (ap (λ (c : Ending). wantsVerdict (endingOf c p (x .result) (length (x .first)) (x .second) .event)) q ∙ m) ∙ e))
@@ -130,6 +130,6 @@ earned t x e = go (p .ending) refl (plan-modest t (x .command) (x .note))
         test false f = true-false (sym (sym (ap (λ (h : Happened). wantsVerdict (h .event)) (decided-bad p (x .result) j y z (length (x .first)) (x .second) q f) ∙ m) ∙ e))
 
 -- and the event that the fourth step of a PIN's run comes to otherwise leaves the counter one lower
-pub trial-paid : (t : Token) (c : Choice) (p : Certificate) (k : Key) → isPin (passwordOf c) ≡ true → afterOf t (otherEvent c Confirm (t .pin)) p k .pin ≡ t .pin - 1
+pub trial-paid : (t : Token) (c : Choice) (b : Brought) → isPin (passwordOf c) ≡ true → afterOf t (otherEvent c Confirm (t .pin)) b .pin ≡ t .pin - 1
 unfolding afterOf trialLost
-trial-paid t c p k e = rw e
+trial-paid t c b e = rw e

@@ -17,6 +17,7 @@ use Rattle.names.proofs.Kept.{same-turned}
 use Rattle.days.specs.declared.Day.{Day}
 use Rattle.keys.specs.declared.Key.{Key}
 use Rattle.certificate.specs.declared.Certificate.{Certificate}
+use Rattle.brought.specs.declared.Brought.{Brought}
 use Rattle.rights.specs.declared.Rights.{Rights}
 use Rattle.roles.specs.declared.Role.the-variants.{Cvca, Terminal}
 use Rattle.rights.specs.declared.Granted.{Granted}
@@ -222,9 +223,9 @@ selects to-newest = refl
 selects (to-previous e) = e
 selects (to-dv e) = e
 
--- what a command names is within its limits
+-- what a command brings is within its limits
 abbrev pub Sound : Asked → Type 0
-Sound a = (m : Kind) (ch : Bool) (x : Ask) → a .request ≡ Asks m ch x → Named x (a .name) (a .certificate) (a .key)
+Sound a = (m : Kind) (ch : Bool) (x : Ask) → a .request ≡ Asks m ch x → Named x (a .brought)
 
 -- ---- every event keeps the limits
 
@@ -364,7 +365,7 @@ module _ (t : Token) (l : InLimits t) where
   from-proof when-proven = refl
   from-proof when-chosen = refl
 
-  pub keep-in : {a : Asked} {z : List ℕ} {e : Event} {p : Certificate} {k : Key} → Sound a → Fits t a z e p k → InLimits (afterOf t e p k)
+  pub keep-in : {a : Asked} {z : List ℕ} {e : Event} {b : Brought} → Sound a → Fits t a z e b → InLimits (afterOf t e b)
   unfolding afterOf runClosed
   keep-in s is-refused = l
   keep-in s is-lost = lost

@@ -17,6 +17,7 @@ use Rattle.names.proofs.Kept.{same-for}
 use Rattle.names.specs.declared.Name.{Name}
 use Rattle.keys.specs.declared.Key.{Key}
 use Rattle.days.specs.declared.Day.{Day}
+use Rattle.brought.specs.declared.Brought.{Brought}
 use Rattle.certificate.specs.declared.Certificate.{Certificate}
 use Rattle.rights.specs.declared.Rights.{Rights}
 use Rattle.roles.specs.declared.Role.{Role}
@@ -323,8 +324,8 @@ module _ {now : List TrustPoint} {ps : Points} {r : List Seen} where
 abbrev pub Agrees : List TrustPoint → Token → List Seen → Type 0
 Agrees now t r = Inv now (t .points) (contextOf t) r
 
-pub keep : {now : List TrustPoint} (t : Token) {r : List Seen} {a : Asked} {z : List ℕ} {e : Event} {p : Certificate} {k : Key} → InLimits t → Fits t a z e p k → Agrees now t r
-    → Agrees (heldAfter now (factAt a z e)) (afterOf t e p k) (more now (factAt a z e) r)
+pub keep : {now : List TrustPoint} (t : Token) {r : List Seen} {a : Asked} {z : List ℕ} {e : Event} {b : Brought} → InLimits t → Fits t a z e b → Agrees now t r
+    → Agrees (heldAfter now (factAt a z e)) (afterOf t e b) (more now (factAt a z e) r)
 unfolding afterOf resetOf choiceTaken staged stepPassed opened runClosed trialLost issuerSelected linkTaken dvTaken terminalTaken announced unblocked unblockedByPuk
 keep t l is-refused i = quiet i
 keep t l is-lost i = lost i
@@ -334,9 +335,9 @@ keep t l (is-opened {c = c} {s = s} q e f) i = open-now (contextOf t) c s f (kno
 keep t l (is-run-closed {c = c} {s = s} q e) i = closed (contextOf t) c (contextOf t .opened) s (known (contextOf t) e i)
 keep t l (is-trial-lost {c = c} {s = s} q e) i = closed (contextOf t) c (contextOf t .opened) s (known (contextOf t) e i)
 keep t l (is-selected q e) i = quiet i
-keep t {a = a} l (is-link-taken n q c r k) i = linked-now (contextOf t) (a .name) (a .certificate) i n r
-keep t {a = a} l (is-dv-taken n q c r k h e) i = deputed-now (contextOf t) (a .name) (a .certificate) i n (l .points) (confirms t l (and-l (hasRights (contextOf t .confirmed)) (unproven (contextOf t .stage)) c)) r h e
-keep t {a = a} l (is-terminal-taken n q c r h e) i = completed-now (contextOf t) (a .name) (a .certificate) i n r h e
+keep t {a = a} l (is-link-taken n q c r k) i = linked-now (contextOf t) (a .brought .name) (a .brought .certificate) i n r
+keep t {a = a} l (is-dv-taken n q c r k h e) i = deputed-now (contextOf t) (a .brought .name) (a .brought .certificate) i n (l .points) (confirms t l (and-l (hasRights (contextOf t .confirmed)) (unproven (contextOf t .stage)) c)) r h e
+keep t {a = a} l (is-terminal-taken n q c r h e) i = completed-now (contextOf t) (a .brought .name) (a .brought .certificate) i n r h e
 keep t l (is-announced q e) i = announced-now (contextOf t) _ i
 keep t l (is-challenged q e) i = challenged-now (contextOf t) (challengeable (contextOf t .stage) e) (known (contextOf t) refl i)
 keep t l (is-proven q e) i = proved-now (contextOf t) (known (contextOf t) (challenged-is (contextOf t .stage) e) i)

@@ -5,8 +5,7 @@ use mathlib.Core.Path.{_≡_, refl, sym, ap, _∙_}
 use mathlib.Core.List.{List}
 use lib.Dec.{ltb}
 use Rattle.laws.proofs.Bools.{true-false}
-use Rattle.keys.specs.declared.Key.{Key}
-use Rattle.certificate.specs.declared.Certificate.{Certificate}
+use Rattle.brought.specs.declared.Brought.{Brought}
 use Rattle.status.specs.declared.Word.{Word}
 use Rattle.status.specs.declared.Word.the-variants.{Done, Tries, NotPassed as W6300}
 use Rattle.run.specs.declared.Choice.{Choice}
@@ -36,10 +35,10 @@ factAt a z (IsOpened c) = StepPassed Confirm
 factAt a z RunClosed = Nothing
 factAt a z (TrialLost n) = Nothing
 factAt a z (IsSelected i) = Nothing
-factAt a z LinkTaken = Accepted (a .name) (a .certificate)
-factAt a z (DvTaken r) = Accepted (a .name) (a .certificate)
-factAt a z TerminalTaken = Accepted (a .name) (a .certificate)
-factAt a z IsAnnounced = Announced (a .key)
+factAt a z LinkTaken = Accepted (a .brought .name) (a .brought .certificate)
+factAt a z (DvTaken r) = Accepted (a .brought .name) (a .brought .certificate)
+factAt a z TerminalTaken = Accepted (a .brought .name) (a .brought .certificate)
+factAt a z IsAnnounced = Announced (a .brought .key)
 factAt a z IsChallenged = Challenged
 factAt a z IsProven = Proved
 factAt a z ProofLost = ProofFailed
@@ -87,7 +86,7 @@ module _ (t : Token) (a : Asked) (z : List ℕ) where
   read : (w : Word) {q : Request} (f : Fact) → a .request ≡ q → factBy w (requestFact a z q) ≡ f → factBy w (requestFact a z (a .request)) ≡ f
   read w f e y = ap (λ (x : Request). factBy w (requestFact a z x)) e ∙ y
 
-  pub fact-of : {e : Event} {p : Certificate} {k : Key} → Fits t a z e p k → factBy (wordOf e) (requestFact a z (a .request)) ≡ factAt a z e
+  pub fact-of : {e : Event} {b : Brought} → Fits t a z e b → factBy (wordOf e) (requestFact a z (a .request)) ≡ factAt a z e
   unfolding wordOf
   fact-of (is-refused {w = w}) = refused-fact w _
   fact-of (is-lost {l = l}) = lost-fact l _

@@ -7,6 +7,7 @@ use Rattle.certificate.specs.Certificate.{noCertificate, todayAfter}
 use Rattle.days.specs.declared.Day.{Day}
 use Rattle.keys.specs.declared.Key.{Key}
 use Rattle.certificate.specs.declared.Certificate.{Certificate}
+use Rattle.brought.specs.declared.Brought.{Brought}
 use Rattle.rights.specs.declared.Rights.{Rights}
 use Rattle.rights.specs.declared.Granted.{Granted}
 use Rattle.rights.specs.declared.Granted.the-variants.{NoRights}
@@ -87,7 +88,7 @@ module _ (t : Token) where
   unfolding unblockedByPuk
   by-puk-is n e = rw e
 
-  pub after-arm : (p : Certificate) (k : Key) (x d : Event) (r : Token) → x ≡ d → r ≡ afterOf t d p k → r ≡ afterOf t x p k
-  after-arm p k x d r e z = z ∙ ap (λ (y : Event). afterOf t y p k) (sym e)
+  pub after-arm : (b : Brought) (x d : Event) (r : Token) → x ≡ d → r ≡ afterOf t d b → r ≡ afterOf t x b
+  after-arm b x d r e z = z ∙ ap (λ (y : Event). afterOf t y b) (sym e)
 
 pub ruleset changes = (extended-arm, choice-is, staged-is, step-is, opened-is, closed-is, lost-is, selected-is, link-is, dv-is, terminal-is, announced-is, by-puk-is, needs)

@@ -32,7 +32,7 @@ module _ (t : Token) (x : Exchange) where
   short-step o q = record { token = rw (lt-ltb _ _ q); reply = rw (lt-ltb _ _ q) (refl, refl) }
 
   pub long-step : (p : Plan) → p ≡ planOf t (x .command) (x .note) → (h : Happened) → h ≡ decidedOf p (x .result) (length (x .first)) (x .second)
-      → room ≤ x .size → (n : Token) → n ≡ afterOf t (h .event) (h .certificate) (h .key)
+      → room ≤ x .size → (n : Token) → n ≡ afterOf t (h .event) (h .brought)
       → (o₀ o₁ : List ℕ) (k : ℕ) → Written (replyTo (n .points) (h .event) (take (h .answer) (x .first)) (x .size)) o₀ o₁ k → Steps t x o₀ o₁ n k
   unfolding stepOf
   long-step p e h f q n g o₀ o₁ k z = record { token = rw (le-ltb _ _ q, ← e, ← f) g; reply = rw (le-ltb _ _ q, ← e, ← f, ← g) z }

@@ -5,6 +5,7 @@ use Rattle.days.specs.Days.{later}
 use Rattle.certificate.specs.Certificate.{noCertificate, todayAfter}
 use Rattle.keys.specs.declared.Key.{Key}
 use Rattle.certificate.specs.declared.Certificate.{Certificate}
+use Rattle.brought.specs.declared.Brought.{Brought}
 use Rattle.rights.specs.declared.Rights.{Rights}
 use Rattle.rights.specs.declared.Granted.the-variants.{NoRights}
 use Rattle.run.specs.declared.Choice.{Choice}
@@ -88,32 +89,32 @@ unblocked t = withPin t tries
 unfoldable pub unblockedByPuk : Token → Token
 unblockedByPuk t = withPuk (withPin t tries) (t .puk - 1)
 
-unfoldable pub afterOf : Token → Event → Certificate → Key → Token
-afterOf t (Refused w) p k = t
-afterOf t (Lost l) p k = resetOf t
-afterOf t (Chosen c left) p k = choiceTaken t c
-afterOf t (StepPassed c s) p k = stepPassed t c s
-afterOf t (IsOpened c) p k = opened t c
-afterOf t RunClosed p k = runClosed t
-afterOf t (TrialLost left) p k = trialLost t left
-afterOf t (Selected i) p k = issuerSelected t i
-afterOf t LinkTaken p k = linkTaken t p
-afterOf t (DvTaken trusted) p k = dvTaken t p trusted
-afterOf t TerminalTaken p k = terminalTaken t p
-afterOf t IsAnnounced p k = announced t k
-afterOf t IsChallenged p k = staged t Challenged
-afterOf t IsProven p k = staged t Proven
+unfoldable pub afterOf : Token → Event → Brought → Token
+afterOf t (Refused w) b = t
+afterOf t (Lost l) b = resetOf t
+afterOf t (Chosen c left) b = choiceTaken t c
+afterOf t (StepPassed c s) b = stepPassed t c s
+afterOf t (IsOpened c) b = opened t c
+afterOf t RunClosed b = runClosed t
+afterOf t (TrialLost left) b = trialLost t left
+afterOf t (Selected i) b = issuerSelected t i
+afterOf t LinkTaken b = linkTaken t (b .certificate)
+afterOf t (DvTaken trusted) b = dvTaken t (b .certificate) trusted
+afterOf t TerminalTaken b = terminalTaken t (b .certificate)
+afterOf t IsAnnounced b = announced t (b .key)
+afterOf t IsChallenged b = staged t Challenged
+afterOf t IsProven b = staged t Proven
 -- "Not passed: 6300, back to announced"
-afterOf t ProofLost p k = staged t Announced
-afterOf t IsChosen p k = staged t ChipKeyChosen
-afterOf t IsAuthenticated p k = staged t Authenticated
+afterOf t ProofLost b = staged t Announced
+afterOf t IsChosen b = staged t ChipKeyChosen
+afterOf t IsAuthenticated b = staged t Authenticated
 -- "Failure: 6300, back to proven"
-afterOf t ChipLost p k = staged t Proven
-afterOf t ReadAllowed p k = t
-afterOf t PinChanged p k = t
-afterOf t UnblockedByPuk p k = unblockedByPuk t
-afterOf t UnblockedByRight p k = unblocked t
-afterOf t Activated p k = withActive t true
-afterOf t Deactivated p k = withActive t false
+afterOf t ChipLost b = staged t Proven
+afterOf t ReadAllowed b = t
+afterOf t PinChanged b = t
+afterOf t UnblockedByPuk b = unblockedByPuk t
+afterOf t UnblockedByRight b = unblocked t
+afterOf t Activated b = withActive t true
+afterOf t Deactivated b = withActive t false
 -- "Not passed: 6300, nothing changes", "same state"
-afterOf t NotPassed p k = t
+afterOf t NotPassed b = t

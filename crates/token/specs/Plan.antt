@@ -32,9 +32,9 @@ unfoldable pub commandOf : Token → Asked → Ask → Plan
 commandOf t a Bad = settledBy (Refused Data)
 commandOf t a (Choose c) = choosePlan (t .pin) (t .active) (t .puk) (contextOf t .opened) c
 commandOf t a (General x) = generalPlan (contextOf t .key) (t .pin) (contextOf t .stage) x
-commandOf t a Select = selectPlan (t .points) (chainOf t) (a .name)
-commandOf t a Verify = verifyPlan (t .points) (chainOf t .dv) (t .today) (t .session .selected) (a .name) (a .certificate)
-commandOf t a Announce = announcePlan (chainOf t .terminal .name) (a .name) (a .key)
+commandOf t a Select = selectPlan (t .points) (chainOf t) (a .brought .name)
+commandOf t a Verify = verifyPlan (t .points) (chainOf t .dv) (t .today) (t .session .selected) (a .brought)
+commandOf t a Announce = announcePlan (chainOf t .terminal .name) (a .brought)
 -- "eight bytes; not passed 6300, same state"
 commandOf t a Challenge = awaitsBy ChallengeJob Challenged NotPassed
 -- "Not passed: 6300, back to announced"

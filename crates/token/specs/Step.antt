@@ -44,7 +44,7 @@ happenedOf t x = decidedOf (planOf t (x .command) (x .note)) (x .result) (length
 
 -- the token after it
 abbrev pub nextOf : Token → Happened → Token
-nextOf t h = afterOf t (h .event) (h .certificate) (h .key)
+nextOf t h = afterOf t (h .event) (h .brought)
 
 abbrev pub endedBy : Token → Happened → Exchange → Stepped
 endedBy t h x = record { token = nextOf t h; word = wordOf (h .event); bytes = replyTo (nextOf t h .points) (h .event) (take (h .answer) (x .first)) (x .size) }

@@ -215,11 +215,12 @@ impl Token {
     }
 
     pub(crate) fn after(mut self, h: Happened) -> Self
-        ensures { λ r. ⌜ r ≡ afterOf self (h .event) (h .certificate) (h .key) ⌝ }
+        ensures { λ r. ⌜ r ≡ afterOf self (h .event) (h .brought) ⌝ }
     {
         let e = h.event;
-        let certificate = h.certificate;
-        let key = h.key;
+        let brought = h.brought;
+        let certificate = brought.certificate;
+        let key = brought.key;
         match e {
             Event::Refused(_) => self,
             Event::Lost(_) => self.reset(),

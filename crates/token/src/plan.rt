@@ -26,8 +26,7 @@ impl Token {
         let chain = context.chain;
         let dv = chain.dv;
         let terminal = chain.terminal;
-        let name = a.name;
-        let key = a.key;
+        let brought = a.brought;
         match ask {
             Ask::Bad => Plan::settled(Event::Refused(Refusal::Data)),
             Ask::Choose(choice) => {
@@ -35,12 +34,12 @@ impl Token {
                 checks::choose(self.pin, self.active, self.puk, o, choice)
             }
             Ask::General(content) => checks::general(context, self.pin, content),
-            Ask::Select => certify::select(points, chain, name),
+            Ask::Select => certify::select(points, chain, brought.name),
             Ask::Verify => {
                 let selected = session.selected;
-                certify::verify(points, dv, self.today, selected, name, a.certificate)
+                certify::verify(points, dv, self.today, selected, brought)
             }
-            Ask::Announce => checks::announce(terminal.name, name, key),
+            Ask::Announce => checks::announce(terminal.name, brought),
             Ask::Challenge => Plan::awaits(Job::Challenge, Event::Challenged, Event::NotPassed),
             Ask::Prove => Plan::awaits(Job::Proof, Event::Proven, Event::ProofLost),
             Ask::ChooseChipKey => Plan::settled(Event::ChipKeyChosen),

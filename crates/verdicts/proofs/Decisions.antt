@@ -37,7 +37,7 @@ module _ (p : Plan) (j : Job) (x y : Event) (a : ℕ) (s : List ℕ) (r : Happen
   judged-not Failed h z = z
   judged-not Missing h z = z
 
-  module _ (v : Verdict) (n : ℕ) (e : v ≡ Passed n) (b : Bool) (m : b ≡ matches j (p .key) s) where
+  module _ (v : Verdict) (n : ℕ) (e : v ≡ Passed n) (b : Bool) (m : b ≡ matches j (p .brought .key) s) where
     pub judged-good : b ≡ true → r ≡ passesBy p j n x a → r ≡ judgedOf p v j x y a s
     unfolding judgedOf
     judged-good h z = rw (e, ← m, h) z
@@ -70,17 +70,17 @@ pub ruleset decisions = (judged-not, judged-good, judged-other, awaited-fits, aw
 
 -- what is to hold of whatever happens, given it of both ways
 module _ (P : Happened → Type 0) (p : Plan) where
-  judged-all : (v : Verdict) (j : Job) (x y : Event) (a : ℕ) (s : List ℕ) → P (endsBy p y) → (matches j (p .key) s ≡ true → (n : ℕ) → P (passesBy p j n x a)) → P (judgedOf p v j x y a s)
+  judged-all : (v : Verdict) (j : Job) (x y : Event) (a : ℕ) (s : List ℕ) → P (endsBy p y) → (matches j (p .brought .key) s ≡ true → (n : ℕ) → P (passesBy p j n x a)) → P (judgedOf p v j x y a s)
   unfolding judgedOf
-  judged-all (Passed n) j x y a s e f = go (matches j (p .key) s) refl
+  judged-all (Passed n) j x y a s e f = go (matches j (p .brought .key) s) refl
     where
-      go : (b : Bool) → matches j (p .key) s ≡ b → P (cond b (passesBy p j n x a) (endsBy p y))
+      go : (b : Bool) → matches j (p .brought .key) s ≡ b → P (cond b (passesBy p j n x a) (endsBy p y))
       go true m = f m n
       go false m = e
   judged-all Failed j x y a s e f = e
   judged-all Missing j x y a s e f = e
 
-  awaited-all : (r : Answered) (j : Job) (x y : Event) (a : ℕ) (s : List ℕ) → P (endsBy p y) → (jobFits j a (length s) ≡ true → matches j (p .key) s ≡ true → (n : ℕ) → P (passesBy p j n x a))
+  awaited-all : (r : Answered) (j : Job) (x y : Event) (a : ℕ) (s : List ℕ) → P (endsBy p y) → (jobFits j a (length s) ≡ true → matches j (p .brought .key) s ≡ true → (n : ℕ) → P (passesBy p j n x a))
       → P (awaitedOf p r j x y a s)
   unfolding awaitedOf
   awaited-all r j x y a s e f = go (eqb (jobNumber j) (jobNumber (r .job))) (jobFits j a (length s)) refl
@@ -92,7 +92,7 @@ module _ (P : Happened → Type 0) (p : Plan) where
 
   pub decided-all : (r : Answered) (a : ℕ) (s : List ℕ) → ((e : Event) → p .ending ≡ Settled e → P (endsBy p e))
       → ((j : Job) (x y : Event) → p .ending ≡ Awaits j x y → P (endsBy p y))
-      → ((j : Job) (x y : Event) → p .ending ≡ Awaits j x y → jobFits j a (length s) ≡ true → matches j (p .key) s ≡ true → (n : ℕ) → P (passesBy p j n x a)) → P (decidedOf p r a s)
+      → ((j : Job) (x y : Event) → p .ending ≡ Awaits j x y → jobFits j a (length s) ≡ true → matches j (p .brought .key) s ≡ true → (n : ℕ) → P (passesBy p j n x a)) → P (decidedOf p r a s)
   unfolding endingOf
   decided-all r a s once other passed = go (p .ending) refl
     where

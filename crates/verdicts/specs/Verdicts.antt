@@ -8,7 +8,8 @@ use Rattle.strings.specs.Bytes.{among, longest}
 use Rattle.keys.specs.Keys.{keyIs, places}
 use Rattle.certificate.specs.Certificate.{withKey}
 use Rattle.keys.specs.declared.Key.{Key}
-use Rattle.certificate.specs.declared.Certificate.{Certificate}
+use Rattle.brought.specs.Brought.{withCertificate}
+use Rattle.brought.specs.declared.Brought.{Brought}
 use Rattle.event.specs.declared.Event.{Event}
 use Rattle.plans.specs.declared.Job.{Job}
 use Rattle.plans.specs.declared.Job.the-variants.{Nothing, Step as StepJob, Certificate as CertificateJob, Challenge, Proof, ChipKey, PinChange}
@@ -46,25 +47,25 @@ matches ChipKey key s = keyIs key s
 matches PinChange key s = true
 
 -- a passed certificate is kept with the number of its key
-abbrev pub takenIn : Job → Certificate → ℕ → Certificate
-takenIn Nothing p n = p
-takenIn (StepJob q) p n = p
-takenIn CertificateJob p n = withKey p n
-takenIn Challenge p n = p
-takenIn Proof p n = p
-takenIn ChipKey p n = p
-takenIn PinChange p n = p
+abbrev pub takenIn : Job → Brought → ℕ → Brought
+takenIn Nothing b n = b
+takenIn (StepJob p) b n = b
+takenIn CertificateJob b n = withCertificate b (withKey (b .certificate) n)
+takenIn Challenge b n = b
+takenIn Proof b n = b
+takenIn ChipKey b n = b
+takenIn PinChange b n = b
 
 -- what happens where nothing is answered, and where the job was passed
 unfoldable pub endsBy : Plan → Event → Happened
-endsBy p e = record { event = e; certificate = p .certificate; key = p .key; answer = 0 }
+endsBy p e = record { event = e; brought = p .brought; answer = 0 }
 
 unfoldable pub passesBy : Plan → Job → ℕ → Event → ℕ → Happened
-passesBy p j n e a = record { event = e; certificate = takenIn j (p .certificate) n; key = p .key; answer = a }
+passesBy p j n e a = record { event = e; brought = takenIn j (p .brought) n; answer = a }
 
 -- "A missing verdict is never a good one"
 unfoldable pub judgedOf : Plan → Verdict → Job → Event → Event → ℕ → List ℕ → Happened
-judgedOf p (Passed n) j x y a s = cond (matches j (p .key) s) (passesBy p j n x a) (endsBy p y)
+judgedOf p (Passed n) j x y a s = cond (matches j (p .brought .key) s) (passesBy p j n x a) (endsBy p y)
 judgedOf p Failed j x y a s = endsBy p y
 judgedOf p Missing j x y a s = endsBy p y
 

@@ -2,7 +2,7 @@
 ghost use mathlib.Core.Path.{_≡_};
 ghost use lib.ListN.{length};
 ghost use Rattle.verdicts.specs.Verdicts.{jobFits, matches, takenIn, endsBy, passesBy, judgedOf, awaitedOf, decidedOf};
-use certificate::Certificate;
+use brought::Brought;
 use event::Event;
 use keys::Key;
 use plans::Ending;
@@ -26,8 +26,7 @@ pub struct Answered {
 // What happened, and how many bytes of the first string are answered.
 pub struct Happened {
     pub event: Event,
-    pub certificate: Certificate,
-    pub key: Key,
+    pub brought: Brought,
     pub answer: usize,
 }
 
@@ -67,17 +66,20 @@ fn matches(job: Job, key: Key, second: &[u8]) -> bool
 }
 
 // A passed certificate's key number is kept with it.
-fn taken_in(job: Job, certificate: Certificate, number: u64) -> Certificate
-    ensures { λ r. ⌜ r ≡ takenIn job certificate number ⌝ }
+fn taken_in(job: Job, brought: Brought, number: u64) -> Brought
+    ensures { λ r. ⌜ r ≡ takenIn job brought number ⌝ }
 {
     match job {
-        Job::Nothing => certificate,
-        Job::Step(_) => certificate,
-        Job::Certificate => certificate.with_key(number),
-        Job::Challenge => certificate,
-        Job::Proof => certificate,
-        Job::ChipKey => certificate,
-        Job::PinChange => certificate,
+        Job::Nothing => brought,
+        Job::Step(_) => brought,
+        Job::Certificate => {
+            let certificate = brought.certificate;
+            brought.with_certificate(certificate.with_key(number))
+        }
+        Job::Challenge => brought,
+        Job::Proof => brought,
+        Job::ChipKey => brought,
+        Job::PinChange => brought,
     }
 }
 
@@ -85,12 +87,10 @@ fn taken_in(job: Job, certificate: Certificate, number: u64) -> Certificate
 fn ends(plan: Plan, e: Event) -> Happened
     ensures { λ r. ⌜ r ≡ endsBy plan e ⌝ }
 {
-    let p = plan.certificate;
-    let k = plan.key;
+    let brought = plan.brought;
     Happened {
         event: e,
-        certificate: p,
-        key: k,
+        brought: brought,
         answer: 0,
     }
 }
@@ -99,13 +99,11 @@ fn ends(plan: Plan, e: Event) -> Happened
 fn passes(plan: Plan, job: Job, number: u64, e: Event, answer: usize) -> Happened
     ensures { λ r. ⌜ r ≡ passesBy plan job number e answer ⌝ }
 {
-    let p = plan.certificate;
-    let k = plan.key;
-    let taken = taken_in(job, p, number);
+    let brought = plan.brought;
+    let taken = taken_in(job, brought, number);
     Happened {
         event: e,
-        certificate: taken,
-        key: k,
+        brought: taken,
         answer: answer,
     }
 }
@@ -125,8 +123,9 @@ fn judged(
     let Verdict::Passed(number) = v else {
         return ends(plan, otherwise);
     };
-    let k = plan.key;
-    if matches(job, k, second) {
+    let brought = plan.brought;
+    let key = brought.key;
+    if matches(job, key, second) {
         return passes(plan, job, number, passed, first);
     }
     ends(plan, otherwise)

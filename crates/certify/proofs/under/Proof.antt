@@ -9,5 +9,4 @@ under-spec =
     tie.close
     (tie.spec
     (λ c κs. search needs)
-    (λ c κs. search needs)
     (λ c. search certifies depth 8))

@@ -12,5 +12,6 @@ chip-key-spec =
     (λ c κs. search needs)
     (λ c. search needs)
     (λ c κs. search needs)
+    (λ c κs. search needs)
     (λ c. search checks depth 8)
     (λ c. search checks depth 8))

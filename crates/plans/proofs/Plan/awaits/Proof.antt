@@ -9,5 +9,4 @@ awaits-spec =
     tie.close
     (tie.spec
     (λ c κs. search needs)
-    (λ c κs. search needs)
     (λ c. search endings))
