@@ -1,4 +1,5 @@
 // The ways a plan ends, the jobs it may want, and what a note does to a session.
+ghost use Rattle.plans.specs.Numbers.{noteNumber, noteAt, jobAt};
 ghost use mathlib.Core.Path.{_≡_};
 ghost use Rattle.plans.specs.Plans.{settledBy, awaitsBy, guardOf, endingJob, jobNumber};
 use brought::Brought;
@@ -13,6 +14,12 @@ pub enum Note {
     Broken,
 }
 
+// The note of a number, if there is one.
+pub enum NoteOf {
+    Is(Note),
+    Unknown,
+}
+
 // What the crypto unit is asked to do.
 pub enum Job {
     Nothing,
@@ -22,6 +29,12 @@ pub enum Job {
     Proof,
     ChipKey,
     PinChange,
+}
+
+// The job of a number, if there is one.
+pub enum JobOf {
+    Is(Job),
+    Unknown,
 }
 
 // An event, or a job with the event if it is passed and the event otherwise.
@@ -43,6 +56,16 @@ pub enum Guard {
 }
 
 impl Note {
+    pub fn number(self) -> u8
+        ensures { λ r. ⌜ r ≡ noteNumber self ⌝ }
+    {
+        match self {
+            Note::Plain => 0,
+            Note::Protected => 1,
+            Note::Broken => 2,
+        }
+    }
+
     pub fn guard(self, opened: bool) -> Guard
         ensures { λ r. ⌜ r ≡ guardOf self opened ⌝ }
     {
@@ -112,5 +135,35 @@ impl Job {
             Job::ChipKey => 8,
             Job::PinChange => 9,
         }
+    }
+}
+
+// The way back.
+pub fn note_of(n: u8) -> NoteOf
+    ensures { λ r. ⌜ r ≡ noteAt n ⌝ }
+{
+    match n {
+        0 => NoteOf::Is(Note::Plain),
+        1 => NoteOf::Is(Note::Protected),
+        2 => NoteOf::Is(Note::Broken),
+        _ => NoteOf::Unknown,
+    }
+}
+
+pub fn job_of(n: u8) -> JobOf
+    ensures { λ r. ⌜ r ≡ jobAt n ⌝ }
+{
+    match n {
+        0 => JobOf::Is(Job::Nothing),
+        1 => JobOf::Is(Job::Step(Step::Nonce)),
+        2 => JobOf::Is(Job::Step(Step::Map)),
+        3 => JobOf::Is(Job::Step(Step::Agree)),
+        4 => JobOf::Is(Job::Step(Step::Confirm)),
+        5 => JobOf::Is(Job::Certificate),
+        6 => JobOf::Is(Job::Challenge),
+        7 => JobOf::Is(Job::Proof),
+        8 => JobOf::Is(Job::ChipKey),
+        9 => JobOf::Is(Job::PinChange),
+        _ => JobOf::Unknown,
     }
 }

@@ -1,6 +1,6 @@
 // The role of a certificate.
 ghost use mathlib.Core.Path.{_≡_};
-ghost use Rattle.roles.specs.Roles.{isCvca, isOfficial, isTerminal, isDv};
+ghost use Rattle.roles.specs.Roles.{roleNumber, isCvca, isOfficial, isTerminal, isDv};
 
 pub enum Role {
     Cvca,
@@ -10,43 +10,49 @@ pub enum Role {
 }
 
 impl Role {
+    // The numbers of the roles, as the top two bits of rights have them.
+    pub const CVCA: u8 = 3;
+
+    pub const OFFICIAL: u8 = 2;
+
+    pub const OTHER: u8 = 1;
+
+    pub const TERMINAL: u8 = 0;
+
+    pub fn number(self) -> u8
+        ensures { λ r. ⌜ r ≡ roleNumber self ⌝ }
+    {
+        match self {
+            Role::Cvca => Role::CVCA,
+            Role::OfficialDv => Role::OFFICIAL,
+            Role::OtherDv => Role::OTHER,
+            Role::Terminal => Role::TERMINAL,
+        }
+    }
+
     pub fn is_cvca(self) -> bool
         ensures { λ r. ⌜ r ≡ isCvca self ⌝ }
     {
-        match self {
-            Role::Cvca => true,
-            Role::OfficialDv => false,
-            Role::OtherDv => false,
-            Role::Terminal => false,
-        }
+        self.number() == Role::CVCA
     }
 
     pub fn is_official(self) -> bool
         ensures { λ r. ⌜ r ≡ isOfficial self ⌝ }
     {
-        match self {
-            Role::Cvca => false,
-            Role::OfficialDv => true,
-            Role::OtherDv => false,
-            Role::Terminal => false,
-        }
+        self.number() == Role::OFFICIAL
     }
 
     pub fn is_terminal(self) -> bool
         ensures { λ r. ⌜ r ≡ isTerminal self ⌝ }
     {
-        match self {
-            Role::Cvca => false,
-            Role::OfficialDv => false,
-            Role::OtherDv => false,
-            Role::Terminal => true,
-        }
+        self.number() == Role::TERMINAL
     }
 
-    // A DV is neither.
+    // Either DV.
     pub fn is_dv(self) -> bool
         ensures { λ r. ⌜ r ≡ isDv self ⌝ }
     {
-        !self.is_cvca() & !self.is_terminal()
+        let n = self.number();
+        (n == Role::OFFICIAL) | (n == Role::OTHER)
     }
 }

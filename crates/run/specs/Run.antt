@@ -1,6 +1,7 @@
 -- A password run: its choice and its steps. Assumes nothing: these are definitions.
 use Prim.Native.Nat.{ℕ}
-use mathlib.Core.Bool.{Bool, true, false}
+use mathlib.Core.Bool.{Bool}
+use lib.Dec.{eqb}
 use Rattle.rights.specs.declared.Granted.{Granted}
 use Rattle.rights.specs.declared.Granted.the-variants.{These, NoRights}
 use Rattle.run.specs.declared.Password.{Password}
@@ -10,23 +11,21 @@ use Rattle.run.specs.declared.Choice.the-variants.{Mrz as ChooseMrz, Can
 use Rattle.run.specs.declared.Step.{Step}
 use Rattle.run.specs.declared.Step.the-variants.{Nonce, Map, Agree, Confirm}
 
+-- "83 with 01 MRZ, 02 CAN, 03 PIN or 04 PUK"
+abbrev pub passwordNumber : Password → ℕ
+passwordNumber Mrz = 0x01
+passwordNumber Can = 0x02
+passwordNumber Pin = 0x03
+passwordNumber Puk = 0x04
+
 abbrev pub isPin : Password → Bool
-isPin Mrz = false
-isPin Can = false
-isPin Pin = true
-isPin Puk = false
+isPin p = eqb (passwordNumber p) (passwordNumber Pin)
 
 abbrev pub isCan : Password → Bool
-isCan Mrz = false
-isCan Can = true
-isCan Pin = false
-isCan Puk = false
+isCan p = eqb (passwordNumber p) (passwordNumber Can)
 
 abbrev pub isPuk : Password → Bool
-isPuk Mrz = false
-isPuk Can = false
-isPuk Pin = false
-isPuk Puk = true
+isPuk p = eqb (passwordNumber p) (passwordNumber Puk)
 
 -- the password of a choice, and the rights that it names
 abbrev pub passwordOf : Choice → Password
@@ -52,10 +51,7 @@ stepNumber Agree = 3
 stepNumber Confirm = 4
 
 abbrev pub isLast : Step → Bool
-isLast Nonce = false
-isLast Map = false
-isLast Agree = false
-isLast Confirm = true
+isLast p = eqb (stepNumber p) (stepNumber Confirm)
 
 abbrev pub nextStep : Step → Step
 nextStep Nonce = Map

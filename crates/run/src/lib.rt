@@ -1,6 +1,6 @@
 // A password run: the choice that opened it, and its step.
 ghost use mathlib.Core.Path.{_≡_};
-ghost use Rattle.run.specs.Run.{passwordOf, rightsNamed, isPin, isCan, isPuk, stepNumber, isLast, nextStep};
+ghost use Rattle.run.specs.Run.{passwordNumber, isPin, isCan, isPuk, passwordOf, rightsNamed, stepNumber, isLast, nextStep};
 use rights::Granted;
 use rights::Rights;
 
@@ -33,37 +33,42 @@ pub enum Step {
 }
 
 impl Password {
+    // The numbers of the passwords in object 83.
+    pub const MRZ: u8 = 1;
+
+    pub const CAN: u8 = 2;
+
+    pub const PIN: u8 = 3;
+
+    pub const PUK: u8 = 4;
+
+    pub fn number(self) -> u8
+        ensures { λ r. ⌜ r ≡ passwordNumber self ⌝ }
+    {
+        match self {
+            Password::Mrz => Password::MRZ,
+            Password::Can => Password::CAN,
+            Password::Pin => Password::PIN,
+            Password::Puk => Password::PUK,
+        }
+    }
+
     pub fn is_pin(self) -> bool
         ensures { λ r. ⌜ r ≡ isPin self ⌝ }
     {
-        match self {
-            Password::Mrz => false,
-            Password::Can => false,
-            Password::Pin => true,
-            Password::Puk => false,
-        }
+        self.number() == Password::PIN
     }
 
     pub fn is_can(self) -> bool
         ensures { λ r. ⌜ r ≡ isCan self ⌝ }
     {
-        match self {
-            Password::Mrz => false,
-            Password::Can => true,
-            Password::Pin => false,
-            Password::Puk => false,
-        }
+        self.number() == Password::CAN
     }
 
     pub fn is_puk(self) -> bool
         ensures { λ r. ⌜ r ≡ isPuk self ⌝ }
     {
-        match self {
-            Password::Mrz => false,
-            Password::Can => false,
-            Password::Pin => false,
-            Password::Puk => true,
-        }
+        self.number() == Password::PUK
     }
 }
 
@@ -96,6 +101,9 @@ impl Choice {
 }
 
 impl Step {
+    // The number of the last.
+    const LAST: u8 = 4;
+
     pub fn number(self) -> u8
         ensures { λ r. ⌜ r ≡ stepNumber self ⌝ }
     {
@@ -103,19 +111,14 @@ impl Step {
             Step::Nonce => 1,
             Step::Map => 2,
             Step::Agree => 3,
-            Step::Confirm => 4,
+            Step::Confirm => Step::LAST,
         }
     }
 
     pub fn is_last(self) -> bool
         ensures { λ r. ⌜ r ≡ isLast self ⌝ }
     {
-        match self {
-            Step::Nonce => false,
-            Step::Map => false,
-            Step::Agree => false,
-            Step::Confirm => true,
-        }
+        self.number() == Step::LAST
     }
 
     pub fn next(self) -> Step

@@ -5,7 +5,8 @@ use lib.Dec.{leb, eqb}
 use Rattle.certificate.specs.Certificate.{noCertificate}
 use Rattle.rights.specs.declared.Granted.{Granted}
 use Rattle.rights.specs.declared.Granted.the-variants.{These, NoRights}
-use Rattle.run.specs.Run.{isPin, isCan, isPuk}
+use Rattle.run.specs.Run.{passwordNumber}
+use Rattle.run.specs.declared.Password.the-variants.{Can, Pin, Puk}
 use Rattle.standing.specs.declared.Opened.{Opened}
 use Rattle.standing.specs.declared.Opened.the-variants.{Nobody, By}
 use Rattle.standing.specs.declared.Reach.{Reach}
@@ -22,17 +23,19 @@ abbrev pub isOpen : Opened → Bool
 isOpen Nobody = false
 isOpen (By p) = true
 
+-- the number of the password that opened it, 0 of none
+abbrev pub openerNumber : Opened → ℕ
+openerNumber Nobody = 0
+openerNumber (By p) = passwordNumber p
+
 abbrev pub openedByPin : Opened → Bool
-openedByPin Nobody = false
-openedByPin (By p) = isPin p
+openedByPin o = eqb (openerNumber o) (passwordNumber Pin)
 
 abbrev pub openedByCan : Opened → Bool
-openedByCan Nobody = false
-openedByCan (By p) = isCan p
+openedByCan o = eqb (openerNumber o) (passwordNumber Can)
 
 abbrev pub openedByPuk : Opened → Bool
-openedByPuk Nobody = false
-openedByPuk (By p) = isPuk p
+openedByPuk o = eqb (openerNumber o) (passwordNumber Puk)
 
 -- ---- what stands in it
 

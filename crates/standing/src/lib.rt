@@ -1,6 +1,6 @@
 // What stands in a session: who opened it, its chain, the selection, the stage; and the questions about each.
 ghost use mathlib.Core.Path.{_≡_};
-ghost use Rattle.standing.specs.Standing.{isOpen, openedByPin, openedByCan, openedByPuk, hasRights, hasDv, hasTerminal, isSelected, noChain, rank};
+ghost use Rattle.standing.specs.Standing.{isOpen, openerNumber, openedByPin, openedByCan, openedByPuk, hasRights, hasDv, hasTerminal, isSelected, noChain, rank};
 use certificate::Certificate;
 use event::Issuer;
 use rights::Granted;
@@ -54,31 +54,32 @@ impl Opened {
         }
     }
 
+    // The number of the password that opened it, 0 of none.
+    fn number(self) -> u8
+        ensures { λ r. ⌜ r ≡ openerNumber self ⌝ }
+    {
+        match self {
+            Opened::Nobody => 0,
+            Opened::By(p) => p.number(),
+        }
+    }
+
     pub fn by_pin(self) -> bool
         ensures { λ r. ⌜ r ≡ openedByPin self ⌝ }
     {
-        match self {
-            Opened::Nobody => false,
-            Opened::By(p) => p.is_pin(),
-        }
+        self.number() == Password::PIN
     }
 
     pub fn by_can(self) -> bool
         ensures { λ r. ⌜ r ≡ openedByCan self ⌝ }
     {
-        match self {
-            Opened::Nobody => false,
-            Opened::By(p) => p.is_can(),
-        }
+        self.number() == Password::CAN
     }
 
     pub fn by_puk(self) -> bool
         ensures { λ r. ⌜ r ≡ openedByPuk self ⌝ }
     {
-        match self {
-            Opened::Nobody => false,
-            Opened::By(p) => p.is_puk(),
-        }
+        self.number() == Password::PUK
     }
 }
 

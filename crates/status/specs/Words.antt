@@ -1,7 +1,13 @@
 -- "Status words": the number of each word of document 01's table. Assumes nothing: these are definitions.
-use Prim.Native.Nat.{ℕ, _+_}
+use Prim.Native.Nat.{ℕ, _+_, _/_, _%_}
+use mathlib.Core.Bool.{cond}
+use mathlib.Core.List.{List, [], _∷_}
+use lib.Dec.{eqb}
+use Rattle.status.specs.Numbered.{valueAt}
 use Rattle.status.specs.declared.Word.{Word}
 use Rattle.status.specs.declared.Word.the-variants.{Done, Tries, NotPassed, Length, Lacking, Blocked, Unusable, Moment, Unprotected, Broken, Data, Parameters, NotFound, Instruction, Class, Outside}
+use Rattle.status.specs.declared.WordOf.{WordOf}
+use Rattle.status.specs.declared.WordOf.the-variants.{Is, Unknown}
 use Rattle.status.specs.declared.Intake.{Intake}
 use Rattle.status.specs.declared.Intake.the-variants.{Accepted, Unfit}
 
@@ -34,6 +40,30 @@ wordNumber Instruction = 0x6D00
 wordNumber Class = 0x6E00
 -- state outside its limits, or reply buffer under 258 bytes
 wordNumber Outside = 0x6F00
+
+-- the words that tell no tries
+abbrev pub words : List Word
+words =
+    Done
+    ∷ NotPassed
+    ∷ Length
+    ∷ Lacking
+    ∷ Blocked
+    ∷ Unusable
+    ∷ Moment
+    ∷ Unprotected
+    ∷ Broken
+    ∷ Data
+    ∷ Parameters
+    ∷ NotFound
+    ∷ Instruction
+    ∷ Class
+    ∷ Outside
+    ∷ []
+
+-- the way back: 63CX tells X tries, the others their own number
+unfoldable pub wordAt : ℕ → WordOf
+wordAt n = cond (eqb (n / 16) 0x63C) (Is (Tries (n % 16))) (valueAt wordNumber Is words n Unknown)
 
 -- "refuses .. with 6A80": a personalisation, and a body that is read alone
 abbrev pub intakeWord : Intake → Word

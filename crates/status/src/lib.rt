@@ -1,6 +1,6 @@
 // The status words of document 01's table.
 ghost use mathlib.Core.Path.{_≡_};
-ghost use Rattle.status.specs.Words.{wordNumber, intakeWord};
+ghost use Rattle.status.specs.Words.{wordNumber, wordAt, intakeWord};
 
 pub enum Word {
     Done,
@@ -19,6 +19,12 @@ pub enum Word {
     Instruction,
     Class,
     Outside,
+}
+
+// The word of a number, if there is one.
+pub enum WordOf {
+    Is(Word),
+    Unknown,
 }
 
 // How a body or a personalisation was met.
@@ -61,5 +67,32 @@ impl Word {
             Word::Class => 0x6E00,
             Word::Outside => 0x6F00,
         }
+    }
+}
+
+// The way back: 63CX is X tries.
+pub fn word_of(n: u16) -> WordOf
+    ensures { λ r. ⌜ r ≡ wordAt n ⌝ }
+{
+    if n / 16 == 0x63C {
+        return WordOf::Is(Word::Tries((n % 16) as u8));
+    }
+    match n {
+        0x9000 => WordOf::Is(Word::Done),
+        0x6300 => WordOf::Is(Word::NotPassed),
+        0x6700 => WordOf::Is(Word::Length),
+        0x6982 => WordOf::Is(Word::Lacking),
+        0x6983 => WordOf::Is(Word::Blocked),
+        0x6984 => WordOf::Is(Word::Unusable),
+        0x6985 => WordOf::Is(Word::Moment),
+        0x6987 => WordOf::Is(Word::Unprotected),
+        0x6988 => WordOf::Is(Word::Broken),
+        0x6A80 => WordOf::Is(Word::Data),
+        0x6A86 => WordOf::Is(Word::Parameters),
+        0x6A88 => WordOf::Is(Word::NotFound),
+        0x6D00 => WordOf::Is(Word::Instruction),
+        0x6E00 => WordOf::Is(Word::Class),
+        0x6F00 => WordOf::Is(Word::Outside),
+        _ => WordOf::Unknown,
     }
 }

@@ -1,5 +1,6 @@
 // The verdict decides: one rule for every job.
 ghost use mathlib.Core.Path.{_≡_};
+ghost use Rattle.verdicts.specs.Numbers.{verdictNumber, verdictAt};
 ghost use lib.ListN.{length};
 ghost use Rattle.verdicts.specs.Verdicts.{jobFits, matches, takenIn, endsBy, passesBy, judgedOf, awaitedOf, decidedOf};
 use brought::Brought;
@@ -17,6 +18,12 @@ pub enum Verdict {
     Missing,
 }
 
+// The verdict of a number, if there is one.
+pub enum VerdictOf {
+    Is(Verdict),
+    Unknown,
+}
+
 // A crypto result, its two strings apart.
 pub struct Answered {
     pub job: Job,
@@ -28,6 +35,30 @@ pub struct Happened {
     pub event: Event,
     pub brought: Brought,
     pub answer: usize,
+}
+
+impl Verdict {
+    pub fn number(self) -> u8
+        ensures { λ r. ⌜ r ≡ verdictNumber self ⌝ }
+    {
+        match self {
+            Verdict::Missing => 0,
+            Verdict::Passed(_) => 1,
+            Verdict::Failed => 2,
+        }
+    }
+}
+
+// The way back; a key number counts with passed only.
+pub fn verdict_of(n: u8, key: u64) -> VerdictOf
+    ensures { λ r. ⌜ r ≡ verdictAt n key ⌝ }
+{
+    match n {
+        0 => VerdictOf::Is(Verdict::Missing),
+        1 => VerdictOf::Is(Verdict::Passed(key)),
+        2 => VerdictOf::Is(Verdict::Failed),
+        _ => VerdictOf::Unknown,
+    }
 }
 
 // Whether two strings have the lengths of this job's.

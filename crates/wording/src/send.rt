@@ -6,9 +6,10 @@ use super::stated::string;
 use digits::hex::put_hex;
 use digits::number::Radix;
 use plans::Job;
+use plans::JobOf;
 use plans::Note;
+use plans::job_of;
 use reply::ROOM;
-use run::Step;
 use strings::same;
 use text::front;
 use verdicts::Verdict;
@@ -95,27 +96,21 @@ fn string_if(line: &[u8], n: usize, k: usize, out: &mut [u8]) -> Strung {
     }
 }
 
-fn job_of(n: u64) -> Job {
-    match n {
-        1 => Job::Step(Step::Nonce),
-        2 => Job::Step(Step::Map),
-        3 => Job::Step(Step::Agree),
-        4 => Job::Step(Step::Confirm),
-        5 => Job::Certificate,
-        6 => Job::Challenge,
-        7 => Job::Proof,
-        8 => Job::ChipKey,
-        9 => Job::PinChange,
-        _ => Job::Nothing,
-    }
-}
-
+// The job that word 7 states; no number over 255 is one's.
 fn job_at(line: &[u8], n: usize) -> Named {
     let x = number(word(line, 7), Radix::Ten);
+    let left_out = n < 7;
+    let JobOf::Is(job) = job_of((x.n % 256) as u8) else {
+        return Named {
+            good: left_out,
+            left_out: left_out,
+            job: Job::Nothing,
+        };
+    };
     Named {
-        good: (x.good & (x.n <= 9)) | (n < 7),
-        left_out: n < 7,
-        job: job_of(x.n),
+        good: (x.good & (x.n < 256)) | left_out,
+        left_out: left_out,
+        job: job,
     }
 }
 

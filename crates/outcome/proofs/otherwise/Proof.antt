@@ -11,4 +11,4 @@ otherwise-spec =
     (λ c κs. search needs)
     (λ c κs. search needs)
     (λ c. search ways)
-    (λ c. search needs))
+    (λ c. search ways))

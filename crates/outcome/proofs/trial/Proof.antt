@@ -12,4 +12,4 @@ trial-spec =
     (λ c κs. search needs)
     (λ c κs. search needs)
     (λ c. search ways)
-    (λ c. search needs))
+    (λ c. search ways))

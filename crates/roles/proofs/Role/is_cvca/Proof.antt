@@ -4,14 +4,4 @@ use Rattle.roles.proofs.Role.is_cvca.Statement.{statement}
 use Rattle.roles.proofs.Role.is_cvca.Tie as tie
 
 pub is-cvca-spec : {M : Type 1} → statement M
-is-cvca-spec =
-    tie.close
-    (tie.spec
-    (λ c. search needs)
-    (λ c. search needs)
-    (λ c. search needs)
-    (λ c. search needs)
-    (λ c. search needs)
-    (λ c. search needs)
-    (λ c. search needs)
-    (λ c. search needs))
+is-cvca-spec = tie.close (tie.spec (λ c κs. search needs) (λ c. rw (c .number .ensures)))
