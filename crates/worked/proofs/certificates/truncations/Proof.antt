@@ -1,12 +1,12 @@
--- `worked::bad_input::truncations` is safe, and counts no more than it tried. Assumes nothing.
+-- `worked::certificates::truncations` is safe, and counts no more than it tried. Assumes nothing.
 use Prim.Native.Nat.{_≤_, _-_}
 use mathlib.Core.Path.{sym}
 use native.Mathlib.Omega.{arith}
 use lib.ListN.{length}
 use lib.Seq.{length-take-le}
 use borrow.Author.Needs.{needs}
-use Rattle.worked.proofs.bad_input.truncations.Statement.{statement}
-use Rattle.worked.proofs.bad_input.truncations.Tie as tie
+use Rattle.worked.proofs.certificates.truncations.Statement.{statement}
+use Rattle.worked.proofs.certificates.truncations.Tie as tie
 
 abbrev Inv-loop : tie.InvT-loop
 Inv-loop s n₀ i₀ n i = (n ≤ i) × (i ≤ length s)
