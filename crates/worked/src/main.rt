@@ -1,16 +1,29 @@
-// Shows the product at work, a section to a module. What it writes is held to the file stdout.
-mod bad_input;
+// Shows the product at work: each line of standard input is told, with what comes of it; then the reply buffer.
+// What it writes is held to the file stdout.
 mod certificates;
 mod reply_buffers;
 mod show;
-mod status_words;
 mod told;
-mod whole_session;
+
+use desk_token::Desk;
+use feeding::Feed;
+use text::front;
+use words::LINE;
+
+fn run(input: &mut [u8], line: &mut [u8]) {
+    let mut desk = Desk::none();
+    let mut f = Feed::start();
+    while 0 < f.turns {
+        let g = f.turn(&mut *input, &mut *line);
+        f = g;
+        let next = told::told(desk, f.whole, front(line, f.kept));
+        desk = next;
+    }
+}
 
 fn main() {
-    certificates::section();
-    bad_input::section();
-    whole_session::section();
-    status_words::section();
+    let mut input = [0u8; 4096];
+    let mut line = [0u8; LINE + 1];
+    run(&mut input, &mut line);
     reply_buffers::section();
 }

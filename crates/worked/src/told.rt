@@ -1,17 +1,21 @@
-// A script in the desk's language, told: what a line shows, the line, its answer.
+// A line of the script, told: what it shows, the line, its answer.
+use super::certificates::certificate;
+use super::certificates::truncated;
 use super::show::number;
 use super::show::write;
 use desk_token::Desk;
+use feeding::rest;
 use lines::answer;
-use text::find;
+use strings::same;
 use text::front;
-use text::past;
 use wording::ANSWER;
+use words::word;
 
 // As much of a line as is shown.
 const SHOWN: usize = 96;
 
 fn shown(line: &[u8]) {
+    write(b"> ");
     write(front(line, SHOWN));
     if SHOWN < line.len() {
         write(b".. (");
@@ -20,50 +24,75 @@ fn shown(line: &[u8]) {
     }
 }
 
-// What a comment says.
-fn comment(line: &[u8]) {
-    if 2 <= line.len() {
-        write(&line[2..]);
-    }
-    write(b"\n");
-}
-
-fn is_comment(line: &[u8]) -> bool {
-    if line.len() == 0 {
-        return false;
-    }
-    line[0] == b'#'
-}
-
 fn answered(out: [u8; ANSWER], len: usize) {
     write(b"\n< ");
     write(front(&out, len));
     write(b"\n");
 }
 
-fn line(desk: Desk, s: &[u8]) -> Desk {
-    if is_comment(s) {
-        comment(s);
-        return desk;
+// What a comment says.
+fn comment(line: &[u8]) {
+    write(rest(line, 2));
+    write(b"\n");
+}
+
+// Whether there is no line yet, or one that is told without a token.
+fn apart(whole: bool, line: &[u8]) -> bool {
+    if !whole {
+        return true;
     }
-    write(b"> ");
-    shown(s);
+    let first = word(line, 0);
+    if same(first, b"#") {
+        comment(line);
+        return true;
+    }
+    if same(first, b"certificate") {
+        certificate(line);
+        return true;
+    }
+    if same(first, b"truncations") {
+        truncated(line);
+        return true;
+    }
+    false
+}
+
+// `set WHAT`, a state that no line of the desk leads to: no use of the PUK left, an inactive PIN, a counter over its limit.
+fn set(desk: Desk, what: &[u8]) -> Desk {
+    let token = desk.token;
+    let mut t = token.reset();
+    if same(what, b"puk=0") {
+        t.puk = 0;
+    }
+    if same(what, b"active=no") {
+        t.active = false;
+    }
+    if same(what, b"pin=4") {
+        t.pin = 4;
+    }
+    Desk {
+        held: true,
+        token: t,
+    }
+}
+
+// A line of the desk, and its answer.
+fn said(desk: Desk, line: &[u8]) -> Desk {
+    shown(line);
     let mut out = [0u8; ANSWER];
-    let t = answer(desk, s, &mut out);
+    let t = answer(desk, line, &mut out);
     answered(out, t.len);
     let next = t.desk;
     next
 }
 
-// The desk once every line was told.
-pub fn told(desk: Desk, script: &[u8]) -> Desk {
-    let mut desk = desk;
-    let mut i = 0;
-    while i < script.len() {
-        let e = find(script, i, b'\n');
-        let next = line(desk, &script[i..e]);
-        desk = next;
-        i = past(e, script.len());
+// The desk once the line was told.
+pub fn told(desk: Desk, whole: bool, line: &[u8]) -> Desk {
+    if apart(whole, line) {
+        return desk;
     }
-    desk
+    if same(word(line, 0), b"set") {
+        return set(desk, word(line, 1));
+    }
+    said(desk, line)
 }

@@ -2,10 +2,11 @@
 use Prim.Native.Nat.{ℕ, _+_, _-_, _^_, _<_, _≤_}
 use mathlib.Core.Path.{_≡_, ap, _∙_}
 use mathlib.Core.List.{List, [], _∷_}
-use mathlib.Core.Bool.{Bool}
+use mathlib.Core.Bool.{Bool, true}
 use native.Mathlib.Omega.{arith}
 use borrow.Author.Needs.{needs}
-use lib.Dec.{eqb, eqb→eq}
+use lib.Dec.{eqb, leb, eqb→eq}
+use borrow.Author.Tests.{leb-true}
 use lib.ListN.{getD}
 use Rattle.laws.proofs.Tables.{at}
 use Rattle.strings.proofs.Strings.{among-in, among-under, among-over}
@@ -23,9 +24,10 @@ none-below : (n : ℕ) → n < 1 → 0 ≡ groupMask n
 unfolding groupMask
 none-below n h = rw (among-under 1 21 n h)
 
-none-above : (n : ℕ) → 21 < n → 0 ≡ groupMask n
+-- k is the code's own bound
+none-above : (n k : ℕ) → k < n → leb 21 k ≡ true → 0 ≡ groupMask n
 unfolding groupMask
-none-above n h = rw (among-over 1 21 n h)
+none-above n k h l = rw (among-over 1 21 n (omega (arith, leb-true 21 k l)))
 
 in-table : (n : ℕ) → 1 ≤ n → n ≤ 21 → getD masks (n - 1) 0 ≡ groupMask n
 unfolding masks right groupMask
