@@ -10,7 +10,8 @@ use feeding::Feed;
 use text::front;
 use words::LINE;
 
-fn run(input: &mut [u8], line: &mut [u8]) {
+// The desk once every line was told.
+fn run(input: &mut [u8], line: &mut [u8]) -> Desk {
     let mut desk = Desk::none();
     let mut f = Feed::start();
     while 0 < f.turns {
@@ -19,11 +20,12 @@ fn run(input: &mut [u8], line: &mut [u8]) {
         let next = told::told(desk, f.whole, front(line, f.kept));
         desk = next;
     }
+    desk
 }
 
 fn main() {
     let mut input = [0u8; 4096];
     let mut line = [0u8; LINE + 1];
-    run(&mut input, &mut line);
-    reply_buffers::section();
+    let desk = run(&mut input, &mut line);
+    reply_buffers::section(desk.token);
 }

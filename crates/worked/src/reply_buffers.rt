@@ -1,13 +1,8 @@
 // The reply buffer: nothing in a short one; else the reply, and after it what stood there.
-use super::show::heading;
 use super::show::number;
 use super::show::write;
-use certificate::Certificate;
-use days::Day;
-use names::Name;
 use plans::Job;
 use plans::Note;
-use rights::Rights;
 use token::state::Token;
 use verdicts::Answered;
 use verdicts::Verdict;
@@ -30,22 +25,9 @@ fn chosen(t: Token, out: &mut [u8]) {
     write(b" kept\n");
 }
 
-fn token() -> Token {
-    let certificate = Certificate {
-        name: Name::of(b"UTCVCAAT00001"),
-        rights: Rights(0xFF_FFFF_FFFF),
-        first: Day(20260101),
-        last: Day(20281231),
-        key: 1,
-    };
-    let p = Token::with_one(certificate, Day(20260215));
-    let t = p.token;
-    t
-}
-
-pub fn section() {
-    heading(b"reply buffers");
-    let t = token();
+// A token that is reset takes the choice.
+pub fn section(token: Token) {
+    let t = token.reset();
     let mut short = [0xAAu8; 257];
     chosen(t, &mut short);
     let mut enough = [0xAAu8; 258];

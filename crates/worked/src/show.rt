@@ -13,12 +13,6 @@ pub fn write(s: &[u8]) {
     io::write_all(1, s);
 }
 
-// The name of a section, on a line of its own.
-pub fn heading(s: &[u8]) {
-    write(s);
-    write(b"\n");
-}
-
 pub fn number(n: usize) {
     io::print_decimal(1, n as u64);
 }

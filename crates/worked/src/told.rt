@@ -57,19 +57,23 @@ fn apart(whole: bool, line: &[u8]) -> bool {
     false
 }
 
+// Another number, if it is to be set.
+fn either(set: bool, n: u8, kept: u8) -> u8 {
+    if set {
+        return n;
+    }
+    kept
+}
+
 // `set WHAT`, a state that no line of the desk leads to: no use of the PUK left, an inactive PIN, a counter over its limit.
 fn set(desk: Desk, what: &[u8]) -> Desk {
     let token = desk.token;
     let mut t = token.reset();
-    if same(what, b"puk=0") {
-        t.puk = 0;
-    }
-    if same(what, b"active=no") {
-        t.active = false;
-    }
-    if same(what, b"pin=4") {
-        t.pin = 4;
-    }
+    let puk = either(same(what, b"puk=0"), 0, t.puk);
+    let pin = either(same(what, b"pin=4"), 4, t.pin);
+    t.active = t.active & !same(what, b"active=no");
+    t.puk = puk;
+    t.pin = pin;
     Desk {
         held: true,
         token: t,
