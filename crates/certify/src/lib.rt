@@ -1,6 +1,6 @@
 // Select issuer and verify certificate.
 ghost use mathlib.Core.Path.{_≡_};
-ghost use Rattle.certify.specs.Certify.{selectPlan, repeats, late, underEnding, underPlan, verifyPlan};
+ghost use Rattle.certify.specs.Certify.{selectPlan, repeats, late, issues, takenEvent, issuedEnding, underPlan, verifyPlan};
 use brought::Brought;
 use certificate::Certificate;
 use days::Day;
@@ -9,7 +9,9 @@ use event::Issuer;
 use event::Refusal;
 use names::Name;
 use plans::Ending;
+use plans::Job;
 use plans::Plan;
+use rights::Rights;
 use roles::Role;
 use standing::Chain;
 use standing::Selected;
@@ -30,6 +32,17 @@ pub fn select(points: Points, chain: Chain, name: Name) -> Plan
         return Plan::settled(Event::Selected(Issuer::Dv));
     }
     Plan::settled(Event::Refused(Refusal::NotFound))
+}
+
+// Whether an issuer may issue a certificate of this role.
+fn issues(issuer: Issuer, role: Role) -> bool
+    ensures { λ r. ⌜ r ≡ issues issuer role ⌝ }
+{
+    match issuer {
+        Issuer::Newest => !role.is_terminal(),
+        Issuer::Previous => !role.is_terminal(),
+        Issuer::Dv => role.is_terminal(),
+    }
 }
 
 // Whether a trust point has the new name, or a terminal's DV.
@@ -53,36 +66,58 @@ fn late(today: Day, certificate: Certificate, issuer: Certificate, role: Role) -
     !link & (a | b)
 }
 
-// What becomes of a certificate under this issuer.
-fn under_ending(
+// What a verified certificate of this role is, under a trust point or DV with these rights.
+fn taken(role: Role, trusted: Rights) -> Event
+    ensures { λ r. ⌜ r ≡ takenEvent role trusted ⌝ }
+{
+    match role {
+        Role::Cvca => Event::LinkTaken,
+        Role::OfficialDv => Event::DvTaken(trusted),
+        Role::OtherDv => Event::DvTaken(trusted),
+        Role::Terminal => Event::TerminalTaken,
+    }
+}
+
+// The checks of a certificate of this role, under an issuer with this certificate of its own.
+fn issued(
     points: Points,
     dv: Certificate,
     today: Day,
     which: Issuer,
+    issuer: Certificate,
     brought: Brought,
+    role: Role,
 ) -> Ending
-    ensures { λ r. ⌜ r ≡ underEnding points dv today which brought ⌝ }
+    ensures { λ r. ⌜ r ≡ issuedEnding points dv today which issuer brought role ⌝ }
 {
     let name = brought.name;
     let certificate = brought.certificate;
-    let own = certificate.name;
-    let rights = certificate.rights;
-    let issuer = points.issuer(which, dv);
-    let trusted = issuer.rights;
-    let issuer_name = issuer.name;
-    let role = rights.role();
-    let placed = outcome::issues(which, role);
-    let repeated = repeats(points, dv, own, role);
-    let named = name.same(issuer_name);
-    let past = late(today, certificate, issuer, role);
-    let taken = outcome::taken(role, trusted);
-    order::verify(!placed, repeated, !named, past, taken)
+    let named = name.same(issuer.name);
+    if !issues(which, role) {
+        return Ending::Settled(Event::Refused(Refusal::Data));
+    }
+    if repeats(points, dv, certificate.name, role) {
+        return Ending::Settled(Event::Refused(Refusal::Data));
+    }
+    if !named {
+        return Ending::Settled(Event::Refused(Refusal::NotFound));
+    }
+    if late(today, certificate, issuer, role) {
+        return Ending::Settled(Event::Refused(Refusal::Unusable));
+    }
+    let taken = taken(role, issuer.rights);
+    Ending::Awaits(Job::Certificate, taken, Event::NotPassed)
 }
 
-fn under(points: Points, dv: Certificate, today: Day, issuer: Issuer, brought: Brought) -> Plan
-    ensures { λ r. ⌜ r ≡ underPlan points dv today issuer brought ⌝ }
+// What becomes of a certificate under this issuer.
+fn under(points: Points, dv: Certificate, today: Day, which: Issuer, brought: Brought) -> Plan
+    ensures { λ r. ⌜ r ≡ underPlan points dv today which brought ⌝ }
 {
-    let ending = under_ending(points, dv, today, issuer, brought);
+    let certificate = brought.certificate;
+    let rights = certificate.rights;
+    let role = rights.role();
+    let issuer = points.issuer(which, dv);
+    let ending = issued(points, dv, today, which, issuer, brought, role);
     Plan {
         ending: ending,
         brought: brought,

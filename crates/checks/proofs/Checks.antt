@@ -12,9 +12,8 @@ use Rattle.keys.specs.declared.Key.{Key}
 use Rattle.brought.specs.declared.Brought.{Brought}
 use Rattle.rights.specs.declared.Rights.{Rights}
 use Rattle.run.specs.declared.Choice.{Choice}
-use Rattle.run.specs.declared.Password.{Password}
 use Rattle.run.specs.declared.Step.{Step}
-use Rattle.run.specs.Run.{passwordOf, isPin, isPuk, stepNumber, tries}
+use Rattle.run.specs.Run.{stepNumber}
 use Rattle.event.specs.declared.Refusal.the-variants.{Lacking, Data, NotFound}
 use Rattle.event.specs.declared.Event.{Event}
 use Rattle.event.specs.declared.Event.the-variants.{Refused, Announced as IsAnnounced, Authenticated as IsAuthenticated, ChipLost, ReadAllowed, PinChanged, NotPassed}
@@ -22,26 +21,22 @@ use Rattle.plans.specs.declared.Job.the-variants.{Step as StepJob, ChipKey, Pin
 use Rattle.plans.specs.declared.Ending.the-variants.{Settled, Awaits}
 use Rattle.plans.specs.declared.Plan.{Plan}
 use Rattle.plans.specs.Plans.{settledBy, awaitsBy}
-use Rattle.order.specs.Order.{chooseLadder, grounded, unblockLadder}
-use Rattle.outcome.specs.Outcome.{passedEvent, otherEvent}
+use Rattle.outcome.specs.Outcome.{chooseEvent, passedEvent, otherEvent, grounded, unblockEvent}
 use Rattle.fields.specs.declared.asked.Content.{Content}
 use Rattle.fields.specs.declared.asked.Content.the-variants.{Step as StepData, Chip}
 use Rattle.standing.specs.declared.Opened.{Opened}
 use Rattle.session.specs.declared.Context.{Context}
 use Rattle.standing.specs.declared.Stage.{Stage}
-use Rattle.standing.specs.Standing.{openedByPin, openedByCan, openedByPuk}
+use Rattle.standing.specs.Standing.{openedByPin}
 use Rattle.authorization.specs.Authorization.{authorization}
 use Rattle.checks.specs.Checks.{isFor, choosePlan, runPlan, chipPlan, generalPlan, announcePlan, readPlan, changePlan, unblockPlan, activePlan}
 
 pub is-step : (x : Content) (p q : Step) (a b : ℕ) → x ≡ StepData q → a ≡ stepNumber q → b ≡ stepNumber p → eqb a b ≡ isFor x p
 is-step x p q a b e f g = rw (e, f, g)
 
-pub choose-is : (pin puk : ℕ) (active : Bool) (o : Opened) (c : Choice) (w : Password) (is-pin is-puk can : Bool) (e : Event) (r : Plan)
-    → w ≡ passwordOf c → is-pin ≡ isPin w → is-puk ≡ isPuk w → can ≡ openedByCan o
-    → e ≡ chooseLadder (is-pin && eqb pin 0) (is-pin && not active) (is-pin && eqb pin 1 && not can) (is-puk && eqb puk 0) c pin
-    → r ≡ settledBy e → r ≡ choosePlan pin active puk o c
+pub choose-is : (pin puk : ℕ) (active : Bool) (o : Opened) (c : Choice) (e : Event) (r : Plan) → e ≡ chooseEvent pin active puk o c → r ≡ settledBy e → r ≡ choosePlan pin active puk o c
 unfolding choosePlan
-choose-is pin puk active o c w is-pin is-puk can e r a b d f g z = rw (← a, ← b, ← d, ← f, ← g) z
+choose-is pin puk active o c e r h z = z ∙ ap settledBy h
 
 module _ (pin : ℕ) (c : Choice) (p : Step) (x : Content) (b : Bool) (e : b ≡ isFor x p) (r : Plan) where
   pub run-bad : not b ≡ true → r ≡ settledBy (Refused Data) → r ≡ runPlan pin c p x
@@ -88,9 +83,9 @@ module _ (x : Context) (a : Rights) (f : a ≡ authorization x) where
       unfolding changePlan
       change-bad h z = rw (← f, ← g, ← e, h) z
 
-    pub unblock-is : (pin puk : ℕ) (p : Bool) (e : Event) → p ≡ openedByPuk (x .opened) → e ≡ unblockLadder p m (eqb puk 0) (eqb pin tries) → r ≡ settledBy e → r ≡ unblockPlan x pin puk
+    pub unblock-is : (pin puk : ℕ) (e : Event) → e ≡ unblockEvent (x .opened) m pin puk → r ≡ settledBy e → r ≡ unblockPlan x pin puk
     unfolding unblockPlan
-    unblock-is pin puk p e h i z = rw (← f, ← g, ← h, ← i) z
+    unblock-is pin puk e h z = rw (← f, ← g) (z ∙ ap settledBy h)
 
     pub active-is : (d e : Event) → e ≡ grounded m d → r ≡ settledBy e → r ≡ activePlan x d
     unfolding activePlan

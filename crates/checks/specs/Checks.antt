@@ -10,7 +10,7 @@ use Rattle.keys.specs.declared.Key.{Key}
 use Rattle.brought.specs.declared.Brought.{Brought}
 use Rattle.run.specs.declared.Choice.{Choice}
 use Rattle.run.specs.declared.Step.{Step}
-use Rattle.run.specs.Run.{passwordOf, isPin, isPuk, stepNumber, tries}
+use Rattle.run.specs.Run.{stepNumber}
 use Rattle.event.specs.declared.Refusal.the-variants.{Lacking, Moment, Data, NotFound}
 use Rattle.event.specs.declared.Event.{Event}
 use Rattle.event.specs.declared.Event.the-variants.{Refused, Announced as IsAnnounced, Authenticated as IsAuthenticated, ChipLost, ReadAllowed, PinChanged, NotPassed}
@@ -18,15 +18,14 @@ use Rattle.plans.specs.declared.Job.the-variants.{Step as StepJob, ChipKey, Pin
 use Rattle.plans.specs.declared.Ending.the-variants.{Settled, Awaits}
 use Rattle.plans.specs.declared.Plan.{Plan}
 use Rattle.plans.specs.Plans.{settledBy, awaitsBy}
-use Rattle.order.specs.Order.{chooseLadder, grounded, unblockLadder}
-use Rattle.outcome.specs.Outcome.{passedEvent, otherEvent}
+use Rattle.outcome.specs.Outcome.{chooseEvent, passedEvent, otherEvent, grounded, unblockEvent}
 use Rattle.fields.specs.declared.asked.Content.{Content}
 use Rattle.fields.specs.declared.asked.Content.the-variants.{Step as StepData, Chip}
 use Rattle.standing.specs.declared.Stage.{Stage}
 use Rattle.standing.specs.declared.Stage.the-variants.{Idle, Run, Announced, Challenged, Proven, ChipKeyChosen, Authenticated}
 use Rattle.session.specs.declared.Context.{Context}
 use Rattle.standing.specs.declared.Opened.{Opened}
-use Rattle.standing.specs.Standing.{openedByPin, openedByCan, openedByPuk}
+use Rattle.standing.specs.Standing.{openedByPin}
 use Rattle.authorization.specs.Authorization.{authorization}
 
 -- "Bit 5 is that of the effective authorization"
@@ -35,19 +34,8 @@ managesPin z = hasRight pinManagement (authorization z)
 
 -- ---- Choose password
 
-unfoldable pub choosePlan : ℕ → Bool → ℕ → Opened → Choice → Plan
-choosePlan pin active puk opened c =
-    settledBy (chooseLadder
-    -- counter 0
-    (isPin (passwordOf c) && eqb pin 0)
-    -- inactive
-    (isPin (passwordOf c) && not active)
-    -- counter 1 unless the CAN opened this session
-    (isPin (passwordOf c) && eqb pin 1 && not (openedByCan opened))
-    -- PUK with no uses
-    (isPuk (passwordOf c) && eqb puk 0)
-    c
-    pin)
+unfoldable pub choosePlan : (pin : ℕ) (active : Bool) (puk : ℕ) → Opened → Choice → Plan
+choosePlan pin active puk opened c = settledBy (chooseEvent pin active puk opened c)
 
 -- ---- Run step
 
@@ -93,8 +81,8 @@ changePlan z active = cond ((openedByPin (z .opened) && active) || managesPin z)
 
 -- ---- Unblock: "opened by PUK (takes one use; none left 6983), or bit 5. Counter 3 is 6985, after 6983"
 
-unfoldable pub unblockPlan : Context → ℕ → ℕ → Plan
-unblockPlan z pin puk = settledBy (unblockLadder (openedByPuk (z .opened)) (managesPin z) (eqb puk 0) (eqb pin tries))
+unfoldable pub unblockPlan : Context → (pin puk : ℕ) → Plan
+unblockPlan z pin puk = settledBy (unblockEvent (z .opened) (managesPin z) pin puk)
 
 -- ---- Activate, deactivate: "bit 5; repeating is 9000"
 

@@ -16,7 +16,6 @@ use plans::Job;
 use plans::Plan;
 use run::Choice;
 use run::Step;
-use run::TRIES;
 use session::Context;
 use standing::Opened;
 use standing::Stage;
@@ -40,19 +39,7 @@ fn bad_data() -> Plan
 pub fn choose(pin: u8, active: bool, puk: u8, opened: Opened, choice: Choice) -> Plan
     ensures { λ r. ⌜ r ≡ choosePlan pin active puk opened choice ⌝ }
 {
-    let w = choice.password();
-    let is_pin = w.is_pin();
-    let is_puk = w.is_puk();
-    let can = opened.by_can();
-    let e = order::choose(
-        is_pin & (pin == 0),
-        is_pin & !active,
-        is_pin & (pin == 1) & !can,
-        is_puk & (puk == 0),
-        choice,
-        pin,
-    );
-    Plan::settled(e)
+    Plan::settled(outcome::choose(pin, active, puk, opened, choice))
 }
 
 // A step of an open run.
@@ -117,7 +104,7 @@ pub fn read(context: Context, group: u8) -> Plan
 {
     let rights = authorization(context);
     let ground = rights.reads(group);
-    Plan::settled(order::on(ground, Event::ReadAllowed))
+    Plan::settled(outcome::on(ground, Event::ReadAllowed))
 }
 
 pub fn change_pin(context: Context, active: bool) -> Plan
@@ -139,8 +126,7 @@ pub fn unblock(context: Context, pin: u8, puk: u8) -> Plan
     let opened = context.opened;
     let rights = authorization(context);
     let right = rights.manages_pin();
-    let own = opened.by_puk();
-    Plan::settled(order::unblock(own, right, puk == 0, pin == TRIES))
+    Plan::settled(outcome::unblock(opened, right, pin, puk))
 }
 
 // Activate and deactivate.
@@ -149,5 +135,5 @@ pub fn set_active(context: Context, done: Event) -> Plan
 {
     let rights = authorization(context);
     let right = rights.manages_pin();
-    Plan::settled(order::on(right, done))
+    Plan::settled(outcome::on(right, done))
 }

@@ -1,23 +1,46 @@
--- The ways out of a step and of a certificate. Assumes nothing.
+-- The ways out of a command's own checks and of a step. Assumes nothing.
 use borrow.Author.Needs.{needs}
 use Prim.Native.Nat.{ℕ, _-_}
-use mathlib.Core.Bool.{Bool, true, false, not}
-use mathlib.Core.Path.{_≡_, sym, ap, _∙_}
-use Rattle.rights.specs.declared.Rights.{Rights}
-use Rattle.roles.specs.declared.Role.{Role}
-use Rattle.roles.specs.Roles.{isTerminal}
+use mathlib.Core.Bool.{Bool, true, false, not, _&&_, _||_}
+use mathlib.Core.Path.{_≡_}
+use Rattle.laws.proofs.Rungs.{rungs}
 use Rattle.run.specs.declared.Choice.{Choice}
 use Rattle.run.specs.declared.Password.{Password}
 use Rattle.run.specs.declared.Step.{Step}
-use Rattle.run.specs.Run.{passwordOf, isPin, isLast}
-use Rattle.event.specs.declared.Issuer.{Issuer}
-use Rattle.event.specs.declared.Issuer.the-variants.{Newest, Previous, Dv}
+use Rattle.run.specs.Run.{passwordOf, isPin, isPuk, isLast}
 use Rattle.event.specs.declared.Event.{Event}
-use Rattle.event.specs.declared.Event.the-variants.{StepPassed, Opened, RunClosed, TrialLost}
-use Rattle.outcome.specs.Outcome.{passedEvent, trialOf, otherEvent, issues, takenEvent}
+use Rattle.event.specs.declared.Event.the-variants.{StepPassed, Opened as IsOpened, RunClosed, TrialLost}
+use Rattle.standing.specs.declared.Opened.{Opened}
+use Rattle.standing.specs.Standing.{openedByCan, openedByPuk}
+use Rattle.outcome.specs.Outcome.{passedEvent, trialOf, otherEvent}
+
+-- ---- the tests of a choice and of an unblock, as the code has them
+
+module _ (c : Choice) (w : Password) (e : w ≡ passwordOf c) (b : Bool) where
+  module _ (f : b ≡ isPin w) (x v : Bool) where
+    pub pin-test : b && x ≡ v → isPin (passwordOf c) && x ≡ v
+    pin-test h = rw (← e, ← f) h
+
+    pub lone-test : (o : Opened) (d : Bool) → d ≡ openedByCan o → b && x && not d ≡ v → isPin (passwordOf c) && x && not (openedByCan o) ≡ v
+    lone-test o d g h = rw (← e, ← f, ← g) h
+
+  pub puk-test : b ≡ isPuk w → (x v : Bool) → b && x ≡ v → isPuk (passwordOf c) && x ≡ v
+  puk-test f x v h = rw (← e, ← f) h
+
+module _ (o : Opened) (b : Bool) (e : b ≡ openedByPuk o) (v : Bool) where
+  pub own-test : b ≡ v → openedByPuk o ≡ v
+  own-test h = rw (← e) h
+
+  pub use-test : (x : Bool) → b && x ≡ v → openedByPuk o && x ≡ v
+  use-test x h = rw (← e) h
+
+  pub ground-test : (x : Bool) → not (b || x) ≡ v → not (openedByPuk o || x) ≡ v
+  ground-test x h = rw (← e) h
+
+-- ---- steps
 
 module _ (c : Choice) (p : Step) (l : Bool) (e : l ≡ isLast p) where
-  pub passed-last : l ≡ true → Opened c ≡ passedEvent c p
+  pub passed-last : l ≡ true → IsOpened c ≡ passedEvent c p
   passed-last h = rw (← e, h)
 
   pub passed-other : l ≡ false → StepPassed c p ≡ passedEvent c p
@@ -36,17 +59,6 @@ module _ (c : Choice) (pin : ℕ) (w : Password) (b : Bool) (e : w ≡ passwordO
   pub trial-other : b ≡ false → RunClosed ≡ trialOf c pin
   trial-other h = rw (← e, ← f, h)
 
-module _ (x : Issuer) (role : Role) (b : Bool) (e : b ≡ isTerminal role) where
-  pub issues-newest : x ≡ Newest → not b ≡ issues x role
-  issues-newest h = rw (h, e)
+pub ruleset tests = (pin-test, lone-test, puk-test, own-test, use-test, ground-test, rungs)
 
-  pub issues-previous : x ≡ Previous → not b ≡ issues x role
-  issues-previous h = rw (h, e)
-
-  pub issues-dv : x ≡ Dv → b ≡ issues x role
-  issues-dv h = rw (h, e)
-
-pub taken-arm : (trusted : Rights) (x d : Role) (r : Event) → x ≡ d → r ≡ takenEvent d trusted → r ≡ takenEvent x trusted
-taken-arm trusted x d r e z = z ∙ ap (λ (y : Role). takenEvent y trusted) (sym e)
-
-pub ruleset ways = (passed-last, passed-other, other-last, other-earlier, trial-pin, trial-other, issues-newest, issues-previous, issues-dv, taken-arm, needs)
+pub ruleset ways = (passed-last, passed-other, other-last, other-earlier, trial-pin, trial-other, needs)

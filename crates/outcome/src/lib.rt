@@ -1,13 +1,36 @@
-// What a run step and a certificate lead to, once their verdict is there.
+// What a command comes to once its data is read: its own checks in their order, each with its refusal; and what a run step leads to.
 ghost use mathlib.Core.Path.{_≡_};
-ghost use Rattle.outcome.specs.Outcome.{passedEvent, otherEvent, trialOf, issues, takenEvent};
+ghost use Rattle.outcome.specs.Outcome.{chooseEvent, passedEvent, otherEvent, trialOf, grounded, unblockEvent};
 ghost use Prim.Native.Nat.{_-_};
 use event::Event;
-use event::Issuer;
-use rights::Rights;
-use roles::Role;
+use event::Refusal;
 use run::Choice;
 use run::Step;
+use run::TRIES;
+use standing::Opened;
+
+// Choose password.
+pub fn choose(pin: u8, active: bool, puk: u8, opened: Opened, choice: Choice) -> Event
+    ensures { λ r. ⌜ r ≡ chooseEvent pin active puk opened choice ⌝ }
+{
+    let w = choice.password();
+    let is_pin = w.is_pin();
+    let is_puk = w.is_puk();
+    let can = opened.by_can();
+    if is_pin & (pin == 0) {
+        return Event::Refused(Refusal::Blocked);
+    }
+    if is_pin & !active {
+        return Event::Refused(Refusal::Unusable);
+    }
+    if is_pin & (pin == 1) & !can {
+        return Event::Refused(Refusal::Moment);
+    }
+    if is_puk & (puk == 0) {
+        return Event::Refused(Refusal::Blocked);
+    }
+    Event::Chosen(choice, pin)
+}
 
 // Run step: what a passed step is.
 pub fn passed(choice: Choice, step: Step) -> Event
@@ -50,25 +73,32 @@ pub fn otherwise(choice: Choice, step: Step, pin: u8) -> Event
     Event::RunClosed
 }
 
-// Whether an issuer may issue a certificate of this role.
-pub fn issues(issuer: Issuer, role: Role) -> bool
-    ensures { λ r. ⌜ r ≡ issues issuer role ⌝ }
+// What is done on a ground, and refused without one.
+pub fn on(ground: bool, done: Event) -> Event
+    ensures { λ r. ⌜ r ≡ grounded ground done ⌝ }
 {
-    match issuer {
-        Issuer::Newest => !role.is_terminal(),
-        Issuer::Previous => !role.is_terminal(),
-        Issuer::Dv => role.is_terminal(),
+    if ground {
+        return done;
     }
+    Event::Refused(Refusal::Lacking)
 }
 
-// What a verified certificate of this role is, under a trust point or DV with these rights.
-pub fn taken(role: Role, trusted: Rights) -> Event
-    ensures { λ r. ⌜ r ≡ takenEvent role trusted ⌝ }
+// Unblock.
+pub fn unblock(opened: Opened, right: bool, pin: u8, puk: u8) -> Event
+    ensures { λ r. ⌜ r ≡ unblockEvent opened right pin puk ⌝ }
 {
-    match role {
-        Role::Cvca => Event::LinkTaken,
-        Role::OfficialDv => Event::DvTaken(trusted),
-        Role::OtherDv => Event::DvTaken(trusted),
-        Role::Terminal => Event::TerminalTaken,
+    let own = opened.by_puk();
+    if !(own | right) {
+        return Event::Refused(Refusal::Lacking);
     }
+    if own & (puk == 0) {
+        return Event::Refused(Refusal::Blocked);
+    }
+    if pin == TRIES {
+        return Event::Refused(Refusal::Moment);
+    }
+    if own {
+        return Event::UnblockedByPuk;
+    }
+    Event::UnblockedByRight
 }

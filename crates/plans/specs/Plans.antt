@@ -19,7 +19,7 @@ use Rattle.plans.specs.declared.Plan.{Plan}
 unfoldable pub settledBy : Event → Plan
 settledBy e = record { ending = Settled e; brought = broughtNone }
 
-unfoldable pub awaitsBy : Job → Event → Event → Plan
+unfoldable pub awaitsBy : Job → (passed otherwise : Event) → Plan
 awaitsBy j x y = record { ending = Awaits j x y; brought = broughtNone }
 
 -- "6987 / 6988: plain while a session is open / broken, or protected with none open"

@@ -42,8 +42,7 @@ use Rattle.plans.specs.Plans.{settledBy, awaitsBy, guardOf}
 use Rattle.keys.specs.Keys.{keyIs}
 use Rattle.verdicts.specs.Verdicts.{matches, takenIn, endsBy, passesBy}
 use Rattle.verdicts.proofs.Decisions.{decided-all}
-use Rattle.order.specs.Order.{chooseLadder, verifyLadder, unblockLadder}
-use Rattle.outcome.specs.Outcome.{passedEvent, otherEvent, issues, takenEvent}
+use Rattle.outcome.specs.Outcome.{passedEvent, otherEvent}
 use Rattle.trust.specs.Trust.{pointsFit, knows, found, issuerOf}
 use Rattle.trust.specs.declared.Points.{Points}
 use Rattle.trust.specs.declared.Trusted.{Trusted}
@@ -69,7 +68,7 @@ use Rattle.token.specs.declared.state.Token.{Token}
 use Rattle.token.specs.State.{uses, contextOf, chainOf}
 use Rattle.token.specs.Limits.{selectable, inLimits}
 use Rattle.checks.specs.Checks.{managesPin, isFor, choosePlan, runPlan, chipPlan, generalPlan, announcePlan, readPlan, changePlan, unblockPlan, activePlan}
-use Rattle.certify.specs.Certify.{selectBy, selectPlan, repeats, late, underEnding, underPlan, verifyPlan}
+use Rattle.certify.specs.Certify.{selectBy, selectPlan, issues, repeats, late, takenEvent, issuedEnding, underPlan, verifyPlan}
 use Rattle.token.specs.Plan.{commandOf, timedOf, requestedOf, guarded, planOf}
 use Rattle.token.specs.Step.{Exchange, happenedOf}
 
@@ -253,30 +252,6 @@ module _ (t : Token) (a : Asked) (z : List ℕ) where
       go false true e false q = true-false (cc)
       go false false e y q = true-false (cc)
 
-  -- the ladders' ways
-  choose-ways : (s i l u : Bool) (c : Choice) (n : ℕ) → (s ≡ false → On (Chosen c n)) → On (chooseLadder s i l u c n)
-  choose-ways true i l u c n f = refused
-  choose-ways false true l u c n f = refused
-  choose-ways false false true u c n f = refused
-  choose-ways false false false true c n f = refused
-  choose-ways false false false false c n f = f refl
-
-  verify-ways : (m r u l : Bool) (x : Event) → (m ≡ false → r ≡ false → u ≡ false → (n : ℕ) → Fits t a z x (takenIn CertificateJob (a .brought) n)) → Fits t a z NotPassed (a .brought)
-      → Ending·Fits t a z (a .brought) (verifyLadder m r u l x)
-  verify-ways true r u l x f g = at-once is-refused refl
-  verify-ways false true u l x f g = at-once is-refused refl
-  verify-ways false false true l x f g = at-once is-refused refl
-  verify-ways false false false true x f g = at-once is-refused refl
-  verify-ways false false false false x f g = in-time (λ k. f refl refl refl) g refl
-
-  unblock-ways : (p r u f : Bool) → On UnblockedByPuk → On UnblockedByRight → On (unblockLadder p r u f)
-  unblock-ways true r true f x y = refused
-  unblock-ways true r false true x y = refused
-  unblock-ways true r false false x y = x
-  unblock-ways false true u true x y = refused
-  unblock-ways false true u false x y = y
-  unblock-ways false false u f x y = refused
-
   run-chip : (c : Choice) (s : Step) → Plan·Fits t a z (runPlan (t .pin) c s Chip)
   unfolding runPlan
   run-chip c s = refuses Data
@@ -290,8 +265,10 @@ module _ (t : Token) (a : Asked) (z : List ℕ) where
     unfolding choosePlan
     choose-fits c q =
         once _
-        (choose-ways (isPin (passwordOf c) && eqb (t .pin) 0) (isPin (passwordOf c) && not (t .active)) (isPin (passwordOf c) && eqb (t .pin) 1 && not (openedByCan (contextOf t .opened)))
-        (isPuk (passwordOf c) && eqb (t .puk) 0) c (t .pin) (λ e. (is-chosen q e, refl)))
+        (rung On (isPin (passwordOf c) && eqb (t .pin) 0) (λ e. refused)
+        (λ e. of-both On (isPin (passwordOf c) && not (t .active)) refused
+        (of-both On (isPin (passwordOf c) && eqb (t .pin) 1 && not (openedByCan (contextOf t .opened))) refused
+        (of-both On (isPuk (passwordOf c) && eqb (t .puk) 0) refused (is-chosen q e, refl)))))
 
     run-fits : (x : Step) (c : Choice) (s : Step) → a .request ≡ Asks m ch (General (StepData x)) → contextOf t .stage ≡ Run c s → Plan·Fits t a z (runPlan (t .pin) c s (StepData x))
     unfolding runPlan
@@ -346,12 +323,24 @@ module _ (t : Token) (a : Asked) (z : List ℕ) where
       taken-fits Dv Terminal r s e f g n = is-terminal-taken n q c r s (not-false _ g)
 
       under-fits : (i : Issuer) → selectable (Chose i) (t .points .two) (hasDv (chainOf t)) ≡ true → Plan·Fits t a z (underPlan (t .points) (chainOf t .dv) (t .today) i (a .brought))
-      unfolding underPlan underEnding
+      unfolding underPlan issuedEnding
       under-fits i s =
-          let o : Role = roleOf (a .brought .certificate .rights) in
-          let h : Certificate = issuerOf (t .points) i (chainOf t .dv) in
-          verify-ways (not (issues i o)) (repeats (t .points) (chainOf t .dv) (a .brought .certificate .name) o) (not (sameName (a .brought .name) (h .name))) (late (t .today) (a .brought .certificate) h o) (takenEvent o (h .rights)) (taken-fits i o refl s)
-          (not-passed q verifying)
+          rung Ends (not (issues i o)) (λ e. no)
+          (λ e. rung Ends (repeats (t .points) (chainOf t .dv) (a .brought .certificate .name) o) (λ f. no)
+          (λ f. rung Ends (not (sameName (a .brought .name) (h .name))) (λ g. no)
+          (λ g. of-both Ends (late (t .today) (a .brought .certificate) h o) no (in-time (λ k. taken-fits i o refl s e f g) (not-passed q verifying) refl))))
+        where
+          o : Role
+          o = roleOf (a .brought .certificate .rights)
+
+          h : Certificate
+          h = issuerOf (t .points) i (chainOf t .dv)
+
+          Ends : Ending → Type 0
+          Ends = Ending·Fits t a z (a .brought)
+
+          no : {w : Refusal} → Ends (Settled (Refused w))
+          no = at-once is-refused refl
 
       verify-fits : (s : Selected) → selectable s (t .points .two) (hasDv (chainOf t)) ≡ true → Plan·Fits t a z (verifyPlan (t .points) (chainOf t .dv) (t .today) s (a .brought))
       unfolding verifyPlan
@@ -373,7 +362,11 @@ module _ (t : Token) (a : Asked) (z : List ℕ) where
 
     unblock-fits : a .request ≡ Asks m ch Unblock → Plan·Fits t a z (unblockPlan (contextOf t) (t .pin) (t .puk))
     unfolding unblockPlan
-    unblock-fits q = once _ (unblock-ways (openedByPuk (contextOf t .opened)) (managesPin (contextOf t)) (eqb (t .puk) 0) (eqb (t .pin) tries) (is-unblocked-puk q, refl) (is-unblocked q, refl))
+    unblock-fits q =
+        once _
+        (of-both On (not (openedByPuk (contextOf t .opened) || managesPin (contextOf t))) refused
+        (of-both On (openedByPuk (contextOf t .opened) && eqb (t .puk) 0) refused
+        (of-both On (eqb (t .pin) tries) refused (of-both On (openedByPuk (contextOf t .opened)) (is-unblocked-puk q, refl) (is-unblocked q, refl)))))
 
   -- every ask, at its moment
   command-fits : {m : Kind} {ch : Bool} {x : Ask} → inLimits t ≡ true → Of m x → a .request ≡ Asks m ch x → momentOf (t .session) m ch ≡ true → Plan·Fits t a z (commandOf t a x)

@@ -24,7 +24,7 @@ use Rattle.verdicts.specs.declared.Happened.{Happened}
 use Rattle.run.specs.Run.{isLast}
 
 -- "one whose strings have other lengths than the job's (empty where none is named)": the lengths that a job names
-abbrev pub jobFits : Job → ℕ → ℕ → Bool
+abbrev pub jobFits : Job → (first second : ℕ) → Bool
 jobFits Nothing a b = false
 -- "84 (1 to 140 bytes), 86 (8): the first string"
 jobFits (StepJob p) a b = cond (isLast p) (eqb a 8 && eqb b 0) (among 1 longest a && eqb b 0)
@@ -60,17 +60,17 @@ takenIn PinChange b n = b
 unfoldable pub endsBy : Plan → Event → Happened
 endsBy p e = record { event = e; brought = p .brought; answer = 0 }
 
-unfoldable pub passesBy : Plan → Job → ℕ → Event → ℕ → Happened
+unfoldable pub passesBy : Plan → Job → (number : ℕ) → Event → (answer : ℕ) → Happened
 passesBy p j n e a = record { event = e; brought = takenIn j (p .brought) n; answer = a }
 
 -- "A missing verdict is never a good one"
-unfoldable pub judgedOf : Plan → Verdict → Job → Event → Event → ℕ → List ℕ → Happened
+unfoldable pub judgedOf : Plan → Verdict → Job → (passed otherwise : Event) (first : ℕ) (second : List ℕ) → Happened
 judgedOf p (Passed n) j x y a s = cond (matches j (p .brought .key) s) (passesBy p j n x a) (endsBy p y)
 judgedOf p Failed j x y a s = endsBy p y
 judgedOf p Missing j x y a s = endsBy p y
 
 -- "A result for another job, or one whose strings have other lengths than the job's, counts as none"
-unfoldable pub awaitedOf : Plan → Answered → Job → Event → Event → ℕ → List ℕ → Happened
+unfoldable pub awaitedOf : Plan → Answered → Job → (passed otherwise : Event) (first : ℕ) (second : List ℕ) → Happened
 awaitedOf p r j x y a s = cond (eqb (jobNumber j) (jobNumber (r .job)) && jobFits j a (length s)) (judgedOf p (r .verdict) j x y a s) (endsBy p y)
 
 unfoldable pub endingOf : Ending → Plan → Answered → ℕ → List ℕ → Happened

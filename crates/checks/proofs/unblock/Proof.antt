@@ -12,5 +12,4 @@ unblock-spec =
     (λ c κs. search needs)
     (λ c κs. search needs)
     (λ c κs. search needs)
-    (λ c κs. search needs)
     (λ c. search checks depth 8))
