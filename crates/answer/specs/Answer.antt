@@ -10,6 +10,7 @@ use Rattle.event.specs.declared.Event.{Event}
 use Rattle.event.specs.declared.Event.the-variants.{Refused, Lost, Chosen, StepPassed, Opened, RunClosed, TrialLost, Selected, LinkTaken, DvTaken, TerminalTaken, Announced, Challenged, Proven, ProofLost, ChipKeyChosen, Authenticated, ChipLost, ReadAllowed, PinChanged, UnblockedByPuk, UnblockedByRight, Activated, Deactivated, NotPassed}
 use Rattle.event.specs.Event.{wordOf}
 use Rattle.trust.specs.declared.Points.{Points}
+use Rattle.trust.specs.Trust.{namesOf}
 use Rattle.reply.specs.declared.Layout.{Layout}
 use Rattle.reply.specs.declared.Layout.the-variants.{Silent, Bare, Flat, Nest, Confirmed, Pair}
 use Rattle.reply.specs.Reply.{replyOf}
@@ -65,5 +66,5 @@ layoutOf Deactivated = Bare
 layoutOf NotPassed = Bare
 
 -- the reply to an event, with the trust points held after it, in a buffer of this size
-unfoldable pub replyTo : Points → Event → List ℕ → ℕ → List ℕ
-replyTo h e first size = replyOf size (layoutOf e) (wordNumber (wordOf e)) first (h .newest .name) (h .previous .name) (h .two)
+unfoldable pub replyTo : Points → Event → (first : List ℕ) (size : ℕ) → List ℕ
+replyTo h e first size = replyOf size (layoutOf e) (wordNumber (wordOf e)) first (namesOf h)

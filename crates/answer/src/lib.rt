@@ -9,7 +9,7 @@ use reply::Layout;
 use run::Step;
 use trust::Points;
 
-fn step_tag(step: Step) -> u8
+fn step_tag(step: Step) -> u16
     ensures { λ r. ⌜ r ≡ stepTag step ⌝ }
 {
     match step {
@@ -74,12 +74,8 @@ fn layout_of(e: Event) -> Layout
 pub fn answer(points: Points, e: Event, first: &[u8], out: &mut [u8]) -> usize
     ensures { λ r. ⌜ Written (replyTo points e (now (first .entry)) (length (now (out .entry)))) (now (out .entry)) (now (out .exit)) r ⌝ }
 {
-    let newest = points.newest;
-    let previous = points.previous;
-    let two = points.two;
-    let a = newest.name;
-    let b = previous.name;
+    let held = points.names();
     let layout = layout_of(e);
     let word = e.word().number();
-    reply::reply(&mut *out, layout, word, first, a, b, two)
+    reply::reply(&mut *out, layout, word, first, held)
 }

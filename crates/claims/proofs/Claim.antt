@@ -23,7 +23,8 @@ use Rattle.fields.specs.Choice as choice
 use Rattle.fields.specs.Held.{generalOf, heldIn}
 use Rattle.fields.specs.Issuers.{verified, verifyOf}
 use Rattle.fields.specs.Asked.{dataOf, asking, askedOf}
-use Rattle.reply.specs.Bytes.{lengthBytes, object}
+use Rattle.headers.specs.Encode.{tagBytes, lengthBytes, header, object}
+use Rattle.brought.specs.Brought.{broughtNone}
 use Rattle.reply.specs.Reply as reply
 use Rattle.trust.specs.Trust.{trustPointFits, onePoint, pointsFit, knows, found, linked}
 use Rattle.standing.specs.Standing.{noChain}
@@ -33,7 +34,7 @@ use Rattle.authorization.specs.Authorization.{sharedBy, authorization}
 use Rattle.token.specs.State.{startOf}
 use Rattle.token.specs.Limits.{inLimits}
 use Rattle.checks.specs.Checks.{choosePlan, runPlan, generalPlan, readPlan}
-use Rattle.certify.specs.Certify.{repeats, late, underEnding, underPlan, verifyPlan}
+use Rattle.certify.specs.Certify.{repeats, late, issuedEnding, underPlan, verifyPlan}
 use Rattle.token.specs.Plan.{commandOf, timedOf, requestedOf, guarded, planOf}
 use Rattle.token.specs.After.{choiceTaken, runClosed, trialLost, linkTaken, dvTaken, terminalTaken, afterOf}
 use Rattle.answer.specs.Answer.{layoutOf, replyTo}
@@ -41,7 +42,7 @@ use Rattle.token.specs.Step.{stepOf}
 use Rattle.claims.specs.Values.{Values}
 
 pub values-met : Values
-unfolding objectsIn objects objectsOf foundIn headerOf tagOf secondTagByte lenOf lengthAfter81 lengthAfter82 counted taken copiedInto isName nameOf noName nameFits sameName keyOf noKey keyFits keyStands isDate dayFits isDay before later rightsFit roleOf isRights andOf common groupMask readsGroup noCertificate certificateFits expired withKey wordNumber isPublicKey isSignature bodyThen signedOf versionThen issuerThen keyThen ownThen rightsThen firstThen lastThen extThen formOf afterHeader afterFour extendedOf dataThen afterShort afterLong kindOf shapeOf headedOf wordOf settledBy awaitsBy endsBy passesBy judgedOf awaitedOf endingOf reading lastly fitted lastOf holds only verifying choiceOf protocolThen passwordThen choice.rightsThen chosenBy generalOf heldIn verified verifyOf dataOf asking askedOf lengthBytes object reply.dataOf reply.replyOf trustPointFits onePoint pointsFit knows found linked noChain momentOf trustedFits dvFits terminalFits chainFits groundFits contextFits sharedBy authorization startOf inLimits choosePlan runPlan generalPlan readPlan repeats late underEnding underPlan verifyPlan commandOf timedOf requestedOf guarded planOf choiceTaken runClosed trialLost linkTaken dvTaken terminalTaken afterOf layoutOf replyTo stepOf
+unfolding objectsIn objects objectsOf foundIn headerOf tagOf secondTagByte lenOf lengthAfter81 lengthAfter82 counted taken copiedInto isName nameOf noName nameFits sameName keyOf noKey keyFits keyStands isDate dayFits isDay before later rightsFit roleOf isRights andOf common groupMask readsGroup noCertificate certificateFits expired withKey wordNumber isPublicKey isSignature bodyThen signedOf versionThen issuerThen keyThen ownThen rightsThen firstThen lastThen extThen formOf afterHeader afterFour extendedOf dataThen afterShort afterLong kindOf shapeOf headedOf wordOf settledBy awaitsBy endsBy passesBy judgedOf awaitedOf endingOf reading lastly fitted lastOf holds only verifying choiceOf protocolThen passwordThen choice.rightsThen chosenBy generalOf heldIn verified verifyOf dataOf asking askedOf tagBytes lengthBytes header object broughtNone reply.dataOf reply.replyOf trustPointFits onePoint pointsFit knows found linked noChain momentOf trustedFits dvFits terminalFits chainFits groundFits contextFits sharedBy authorization startOf inLimits choosePlan runPlan generalPlan readPlan repeats late issuedEnding underPlan verifyPlan commandOf timedOf requestedOf guarded planOf choiceTaken runClosed trialLost linkTaken dvTaken terminalTaken afterOf layoutOf replyTo stepOf
 values-met =
     record {
       p1 = refl;

@@ -13,6 +13,13 @@ pub struct Name {
     pub len: usize,
 }
 
+// The names of the trust points held: the newest, and the previous where there are two.
+pub struct Held {
+    pub newest: Name,
+    pub previous: Name,
+    pub two: bool,
+}
+
 // Whether a string is a name.
 pub fn is_name(s: &[u8]) -> bool
     ensures { λ r. ⌜ r ≡ isName (now (s .entry)) ⌝ }

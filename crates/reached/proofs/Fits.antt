@@ -43,8 +43,8 @@ use Rattle.keys.specs.Keys.{keyIs}
 use Rattle.verdicts.specs.Verdicts.{matches, takenIn, endsBy, passesBy}
 use Rattle.verdicts.proofs.Decisions.{decided-all}
 use Rattle.outcome.specs.Outcome.{passedEvent, otherEvent}
-use Rattle.trust.specs.Trust.{pointsFit, knows, found, issuerOf}
-use Rattle.trust.specs.declared.Points.{Points}
+use Rattle.trust.specs.Trust.{pointsFit, knows, found, issuerOf, holds}
+use Rattle.trust.proofs.Laws.{Holds, as-newest, as-previous, found-holds}
 use Rattle.trust.specs.declared.Trusted.{Trusted}
 use Rattle.trust.specs.declared.Trusted.the-variants.{Is, Unknown}
 use Rattle.fields.specs.declared.asked.Content.{Content}
@@ -78,17 +78,6 @@ use Rattle.token.specs.Step.{Exchange, happenedOf}
 abbrev pub certifying : Token → Bool
 certifying t = hasRights (contextOf t .confirmed) && unproven (contextOf t .stage)
 
--- a trust point that is held
-pub data Holds (h : Points) : Certificate → Type 0 where
-  as-newest : Holds h (h .newest)
-  as-previous : h .two ≡ true → Holds h (h .previous)
-
--- an issuer that may be selected
-pub data Selects (t : Token) : Issuer → Type 0 where
-  to-newest : Selects t Newest
-  to-previous : t .points .two ≡ true → Selects t Previous
-  to-dv : hasDv (chainOf t) ≡ true → Selects t Dv
-
 -- a command whose verdict may fail with no change
 pub data Quiet : Ask → Type 0 where
   verifying : Quiet Verify
@@ -104,7 +93,7 @@ pub data Fits (t : Token) (a : Asked) (z : List ℕ) : Event → Brought → Typ
   is-opened : {m : Kind} {ch : Bool} {c : Choice} {s : Step} {b : Brought} → a .request ≡ Asks m ch (General (StepData s)) → contextOf t .stage ≡ Run c s → isLast s ≡ true → Fits t a z (IsOpened c) b
   is-run-closed : {m : Kind} {ch : Bool} {x : Step} {c : Choice} {s : Step} {b : Brought} → a .request ≡ Asks m ch (General (StepData x)) → contextOf t .stage ≡ Run c s → Fits t a z RunClosed b
   is-trial-lost : {m : Kind} {ch : Bool} {x : Step} {c : Choice} {s : Step} {b : Brought} → a .request ≡ Asks m ch (General (StepData x)) → contextOf t .stage ≡ Run c s → Fits t a z (TrialLost (t .pin - 1)) b
-  is-selected : {m : Kind} {ch : Bool} {i : Issuer} {b : Brought} → a .request ≡ Asks m ch Select → Selects t i → Fits t a z (IsSelected i) b
+  is-selected : {m : Kind} {ch : Bool} {i : Issuer} {b : Brought} → a .request ≡ Asks m ch Select → holds (t .points) i (hasDv (chainOf t)) ≡ true → Fits t a z (IsSelected i) b
   is-link-taken : (n : ℕ) {m : Kind} {ch : Bool} → a .request ≡ Asks m ch Verify → certifying t ≡ true → roleOf (a .brought .certificate .rights) ≡ Cvca → knows (t .points) (a .brought .certificate .name) ≡ false
       → Fits t a z LinkTaken (takenIn CertificateJob (a .brought) n)
   is-dv-taken : (n : ℕ) {m : Kind} {ch : Bool} {h : Certificate} → a .request ≡ Asks m ch Verify → certifying t ≡ true → isDv (roleOf (a .brought .certificate .rights)) ≡ true → knows (t .points) (a .brought .certificate .name) ≡ false
@@ -135,14 +124,14 @@ pub record InLimits (t : Token) : Type 0 where
   pub points : pointsFit (t .points) ≡ true
   pub context : contextFits (contextOf t) (t .pin) ≡ true
   pub dv : not (hasDv (chainOf t) && knows (t .points) (chainOf t .dv .name)) ≡ true
-  pub chosen : selectable (t .session .selected) (t .points .two) (hasDv (chainOf t)) ≡ true
+  pub chosen : selectable (t .session .selected) (t .points) (hasDv (chainOf t)) ≡ true
 
 pub limits-of : (t : Token) → inLimits t ≡ true → InLimits t
 unfolding inLimits
 limits-of t h =
     let k =
     and-7 (leb (t .pin) tries) (leb (t .puk) uses) (dayFits (t .today)) (pointsFit (t .points)) (contextFits (contextOf t) (t .pin))
-    (not (hasDv (chainOf t) && knows (t .points) (chainOf t .dv .name))) (selectable (t .session .selected) (t .points .two) (hasDv (chainOf t))) h in
+    (not (hasDv (chainOf t) && knows (t .points) (chainOf t .dv .name))) (selectable (t .session .selected) (t .points) (hasDv (chainOf t))) h in
     record { pin = k .0; puk = k .1; today = k .2; points = k .3; context = k .4; dv = k .5; chosen = k .6 }
 
 pub in-limits : {t : Token} → InLimits t → inLimits t ≡ true
@@ -241,17 +230,6 @@ module _ (t : Token) (a : Asked) (z : List ℕ) where
   unfolding awaitsBy
   waits j x y f g = in-time f (g .0) (g .1)
 
-  -- the trust points may be selected, and the chain's DV
-  found-selects : (n : Name) (i : Issuer) → found (t .points) n ≡ Is i → Selects t i
-  unfolding found
-  found-selects n i = go (sameName n (t .points .newest .name)) (t .points .two) refl (sameName n (t .points .previous .name))
-    where
-      go : (x two : Bool) → t .points .two ≡ two → (y : Bool) → cond x (Is Newest) (cond (two && y) (Is Previous) Unknown) ≡ Is i → Selects t i
-      go true two e y q = subst (Selects t) (let z : Newest ≡ i = cc in z) to-newest
-      go false true e true q = subst (Selects t) (let z : Previous ≡ i = cc in z) (to-previous e)
-      go false true e false q = true-false (cc)
-      go false false e y q = true-false (cc)
-
   run-chip : (c : Choice) (s : Step) → Plan·Fits t a z (runPlan (t .pin) c s Chip)
   unfolding runPlan
   run-chip c s = refuses Data
@@ -299,13 +277,13 @@ module _ (t : Token) (a : Asked) (z : List ℕ) where
     select-fits n q = go (found (t .points) n) refl
       where
         go : (x : Trusted) → found (t .points) n ≡ x → Plan·Fits t a z (selectBy (chainOf t) n x)
-        go (Is i) e = once _ (is-selected q (found-selects n i e), refl)
+        go (Is i) e = once _ (is-selected q (found-holds (t .points) n i (hasDv (chainOf t)) e), refl)
         go Unknown e =
-            rung (Plan·Fits t a z) (hasDv (chainOf t) && sameName n (chainOf t .dv .name)) (λ f. once _ (is-selected q (to-dv (and-l (hasDv (chainOf t)) (sameName n (chainOf t .dv .name)) f)), refl)) (λ f. refuses NotFound)
+            rung (Plan·Fits t a z) (hasDv (chainOf t) && sameName n (chainOf t .dv .name)) (λ f. once _ (is-selected q (and-l (hasDv (chainOf t)) (sameName n (chainOf t .dv .name)) f), refl)) (λ f. refuses NotFound)
 
     -- under each issuer, each role
     module _ (q : a .request ≡ Asks m ch Verify) (c : certifying t ≡ true) where
-      taken-fits : (i : Issuer) (o : Role) → roleOf (a .brought .certificate .rights) ≡ o → selectable (Chose i) (t .points .two) (hasDv (chainOf t)) ≡ true → not (issues i o) ≡ false
+      taken-fits : (i : Issuer) (o : Role) → roleOf (a .brought .certificate .rights) ≡ o → selectable (Chose i) (t .points) (hasDv (chainOf t)) ≡ true → not (issues i o) ≡ false
           → repeats (t .points) (chainOf t .dv) (a .brought .certificate .name) o ≡ false → not (sameName (a .brought .name) (issuerOf (t .points) i (chainOf t .dv) .name)) ≡ false
           → (n : ℕ) → Fits t a z (takenEvent o (issuerOf (t .points) i (chainOf t .dv) .rights)) (takenIn CertificateJob (a .brought) n)
       unfolding repeats
@@ -322,7 +300,7 @@ module _ (t : Token) (a : Asked) (z : List ℕ) where
       taken-fits Dv OtherDv r s e f g n = true-false e
       taken-fits Dv Terminal r s e f g n = is-terminal-taken n q c r s (not-false _ g)
 
-      under-fits : (i : Issuer) → selectable (Chose i) (t .points .two) (hasDv (chainOf t)) ≡ true → Plan·Fits t a z (underPlan (t .points) (chainOf t .dv) (t .today) i (a .brought))
+      under-fits : (i : Issuer) → selectable (Chose i) (t .points) (hasDv (chainOf t)) ≡ true → Plan·Fits t a z (underPlan (t .points) (chainOf t .dv) (t .today) i (a .brought))
       unfolding underPlan issuedEnding
       under-fits i s =
           rung Ends (not (issues i o)) (λ e. no)
@@ -342,7 +320,7 @@ module _ (t : Token) (a : Asked) (z : List ℕ) where
           no : {w : Refusal} → Ends (Settled (Refused w))
           no = at-once is-refused refl
 
-      verify-fits : (s : Selected) → selectable s (t .points .two) (hasDv (chainOf t)) ≡ true → Plan·Fits t a z (verifyPlan (t .points) (chainOf t .dv) (t .today) s (a .brought))
+      verify-fits : (s : Selected) → selectable s (t .points) (hasDv (chainOf t)) ≡ true → Plan·Fits t a z (verifyPlan (t .points) (chainOf t .dv) (t .today) s (a .brought))
       unfolding verifyPlan
       verify-fits NoIssuer e = refuses Moment
       verify-fits (Chose i) e = under-fits i e

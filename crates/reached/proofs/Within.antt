@@ -6,14 +6,13 @@ use mathlib.Core.List.{List}
 use native.Mathlib.Omega.{arith}
 use borrow.Author.Tests.{leb-true, le-leb}
 use lib.Dec.{eqb, leb, ltb}
-use Rattle.laws.proofs.Bools.{true-false, and-l, and-r, and-5, or-l, or-then, both, of-both}
-use Rattle.names.specs.Names.{sameName, nameFits}
+use Rattle.laws.proofs.Bools.{true-false, and-l, and-r, and-5, or-then, both, of-both}
+use Rattle.names.specs.Names.{nameFits}
 use Rattle.days.specs.Days.{dayFits, before, later}
 use Rattle.rights.specs.Rights.{rightsFit, roleOf}
 use Rattle.roles.specs.Roles.{isCvca, isDv, isOfficial}
 use Rattle.certificate.specs.Certificate.{noCertificate, certificateFits, withKey}
 use Rattle.keys.specs.Keys.{noKey, keyFits, keyStands}
-use Rattle.names.proofs.Kept.{same-turned}
 use Rattle.days.specs.declared.Day.{Day}
 use Rattle.keys.specs.declared.Key.{Key}
 use Rattle.certificate.specs.declared.Certificate.{Certificate}
@@ -29,8 +28,9 @@ use Rattle.run.specs.declared.Step.the-variants.{Nonce}
 use Rattle.run.specs.Run.{passwordOf, rightsNamed, isPin, isCan, nextStep, tries}
 use Rattle.event.specs.declared.Issuer.{Issuer}
 use Rattle.event.specs.declared.Event.{Event}
-use Rattle.trust.specs.Trust.{trustPointFits, pointsFit, knows, linked}
+use Rattle.trust.specs.Trust.{trustPointFits, pointsFit, knows, holds}
 use Rattle.trust.specs.declared.Points.{Points}
+use Rattle.trust.proofs.Laws.{Holds, held-fits, linked-fits}
 use Rattle.fields.specs.declared.asked.Ask.{Ask}
 use Rattle.fields.specs.declared.asked.Request.the-variants.{Asks}
 use Rattle.fields.specs.declared.asked.Asked.{Asked}
@@ -42,7 +42,6 @@ use Rattle.standing.specs.declared.Opened.the-variants.{Nobody, By}
 use Rattle.standing.specs.declared.Reach.{Reach}
 use Rattle.standing.specs.declared.Reach.the-variants.{Empty, ToDv, ToTerminal}
 use Rattle.standing.specs.declared.Chain.{Chain}
-use Rattle.standing.specs.declared.Selected.the-variants.{Of as Chose}
 use Rattle.standing.specs.declared.Stage.{Stage}
 use Rattle.standing.specs.declared.Stage.the-variants.{Idle, Run, Announced, Challenged, Proven, ChipKeyChosen, Authenticated}
 use Rattle.session.specs.declared.Context.{Context}
@@ -55,11 +54,10 @@ use Rattle.token.specs.declared.state.Token.{Token}
 use Rattle.status.specs.declared.Intake.the-variants.{Accepted, Unfit}
 use Rattle.token.specs.declared.state.Personalised.{Personalised}
 use Rattle.token.specs.State.{uses, withSession, withPin, withActive, resetOf, startOf, noToken, madeOf, contextOf, chainOf}
-use Rattle.token.specs.Limits.{selectable}
 use Rattle.token.specs.After.{choiceTaken, staged, stepPassed, triesAfter, opened, runClosed, trialLost, issuerSelected, linkTaken, dvTaken, extended, terminalTaken, announced, unblocked, unblockedByPuk, afterOf}
 use Rattle.token.specs.Step.{Exchange, Stepped, happenedOf, nextOf, stepOf}
 use Rattle.reply.specs.Reply.{room}
-use Rattle.reached.proofs.Fits.{InLimits, certifying, Holds, as-newest, as-previous, Selects, to-newest, to-previous, to-dv, Fits, is-refused, is-lost, is-chosen, is-stepped, is-opened, is-run-closed, is-trial-lost, is-selected, is-link-taken, is-dv-taken, is-terminal-taken, is-announced, is-challenged, is-proven, is-proof-lost, is-chip-key-chosen, is-authenticated, is-chip-lost, not-passed, is-read, is-changed, is-unblocked-puk, is-unblocked, is-activated, is-deactivated, fits}
+use Rattle.reached.proofs.Fits.{InLimits, certifying, Fits, is-refused, is-lost, is-chosen, is-stepped, is-opened, is-run-closed, is-trial-lost, is-selected, is-link-taken, is-dv-taken, is-terminal-taken, is-announced, is-challenged, is-proven, is-proof-lost, is-chip-key-chosen, is-authenticated, is-chip-lost, not-passed, is-read, is-changed, is-unblocked-puk, is-unblocked, is-activated, is-deactivated, fits}
 
 -- ---- the rungs of a session
 
@@ -151,27 +149,11 @@ certificate-of : (p : Certificate) → certificateFits p ≡ true → InCertific
 unfolding certificateFits
 certificate-of p h = let k = and-5 (nameFits (p .name)) (rightsFit (p .rights)) (dayFits (p .first)) (dayFits (p .last)) (not (before (p .last) (p .first))) h in record { rights = k .1; first = k .2 }
 
--- each held trust point is one
-held-fits : (h : Points) {p : Certificate} → pointsFit h ≡ true → Holds h p → trustPointFits p ≡ true
-unfolding pointsFit
-held-fits h e as-newest = and-l (trustPointFits (h .newest)) (not (h .two) || (trustPointFits (h .previous) && not (sameName (h .previous .name) (h .newest .name)))) e
-held-fits h e (as-previous two) =
-    and-l (trustPointFits (h .previous)) (not (sameName (h .previous .name) (h .newest .name)))
-    (or-then (h .two) (trustPointFits (h .previous) && not (sameName (h .previous .name) (h .newest .name)))
-    (and-r (trustPointFits (h .newest)) (not (h .two) || (trustPointFits (h .previous) && not (sameName (h .previous .name) (h .newest .name)))) e) two)
-
+-- a trust point that is held
 held-trusted : (p : Certificate) → trustPointFits p ≡ true → trustedFits (p .rights) ≡ true
 unfolding trustPointFits trustedFits
 held-trusted p h =
     both (rightsFit (p .rights)) (isCvca (roleOf (p .rights))) (certificate-of p (and-l (certificateFits p) (isCvca (roleOf (p .rights))) h) .rights) (and-r (certificateFits p) (isCvca (roleOf (p .rights))) h)
-
--- a link among the trust points
-linked-in : (h : Points) (p : Certificate) (n : ℕ) → pointsFit h ≡ true → certificateFits p ≡ true → roleOf (p .rights) ≡ Cvca → knows h (p .name) ≡ false → pointsFit (linked h (withKey p n)) ≡ true
-unfolding pointsFit trustPointFits linked withKey certificateFits knows
-linked-in h p n e f g k =
-    let a = and-l (trustPointFits (h .newest)) (not (h .two) || (trustPointFits (h .previous) && not (sameName (h .previous .name) (h .newest .name)))) e in
-    let d : sameName (h .newest .name) (p .name) ≡ false = same-turned (h .newest .name) (p .name) ∙ or-l (sameName (p .name) (h .newest .name)) (h .two && sameName (p .name) (h .previous .name)) k in
-    rw (g, d) (both _ _ (both _ _ f refl) (both _ _ a refl))
 
 -- ---- a chain
 
@@ -217,11 +199,6 @@ named-in (CanFor r) f = f r refl
 named-in Pin f = refl
 named-in (PinFor r) f = f r refl
 named-in Puk f = refl
-
-selects : {t : Token} {i : Issuer} → Selects t i → selectable (Chose i) (t .points .two) (hasDv (chainOf t)) ≡ true
-selects to-newest = refl
-selects (to-previous e) = e
-selects (to-dv e) = e
 
 -- what a command brings is within its limits
 abbrev pub Sound : Asked → Type 0
@@ -272,9 +249,9 @@ module _ (t : Token) (l : InLimits t) where
   active : (b : Bool) → InLimits (withActive t b)
   active b = record { pin = l .pin; puk = l .puk; today = l .today; points = l .points; context = l .context; dv = l .dv; chosen = l .chosen }
 
-  selected-in : {i : Issuer} → Selects t i → InLimits (issuerSelected t i)
+  selected-in : (i : Issuer) → holds (t .points) i (hasDv (chainOf t)) ≡ true → InLimits (issuerSelected t i)
   unfolding issuerSelected
-  selected-in e = record { pin = l .pin; puk = l .puk; today = l .today; points = l .points; context = l .context; dv = l .dv; chosen = selects e }
+  selected-in i e = record { pin = l .pin; puk = l .puk; today = l .today; points = l .points; context = l .context; dv = l .dv; chosen = e }
 
   chosen-in : (c : Choice) → isPin (passwordOf c) && eqb (t .pin) 0 ≡ false → ((r : Rights) → rightsNamed c ≡ These r → rightsFit r ≡ true) → InLimits (choiceTaken t c)
   unfolding choiceTaken
@@ -305,7 +282,7 @@ module _ (t : Token) (l : InLimits t) where
           pin = l .pin;
           puk = l .puk;
           today = later-in (t .today) (p .first) (l .today) (certificate-of p f .first);
-          points = linked-in (t .points) p n (l .points) f r k;
+          points = linked-fits (t .points) (l .points) p n f r k;
           context = in-context (chained-in (t .session) (t .pin) noChain refl refl context-in);
           dv = refl;
           chosen = refl;
@@ -374,7 +351,7 @@ module _ (t : Token) (l : InLimits t) where
   keep-in s (is-opened {c = c} {s = p} q e f) = opened-in c p e
   keep-in s (is-run-closed q e) = closed (t .pin) (l .pin)
   keep-in s (is-trial-lost q e) = fell
-  keep-in s (is-selected q e) = selected-in e
+  keep-in s (is-selected {i = i} q e) = selected-in i e
   keep-in s (is-link-taken n q c r k) = link-in _ n (s _ _ _ q .0) c r k
   keep-in s (is-dv-taken n q c r k h e) = dv-in _ n (s _ _ _ q .0) c r k h
   keep-in s (is-terminal-taken n q c r h e) = terminal-in _ n (s _ _ _ q .0) c r h

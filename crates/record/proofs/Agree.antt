@@ -5,15 +5,13 @@ use mathlib.Core.Bool.{Bool, true, false, cond, not, _&&_, _||_}
 use mathlib.Core.Path.{_≡_, refl, sym, ap, subst, _∙_}
 use mathlib.Core.Option.{Option, none, some}
 use mathlib.Core.List.{List, [], _∷_}
-use borrow.Author.Tests.{not-true}
 use Rattle.strings.specs.Bytes.{eqbs}
-use Rattle.laws.proofs.Bools.{true-false, and-l, and-r, or-then}
+use Rattle.laws.proofs.Bools.{true-false, and-l, or-then}
 use Rattle.names.specs.Names.{sameName}
 use Rattle.rights.specs.Rights.{roleOf}
 use Rattle.roles.specs.Roles.{isCvca, isDv}
 use Rattle.certificate.specs.Certificate.{noCertificate, withKey}
 use Rattle.keys.specs.Keys.{noKey, keyIs}
-use Rattle.names.proofs.Kept.{same-for}
 use Rattle.names.specs.declared.Name.{Name}
 use Rattle.keys.specs.declared.Key.{Key}
 use Rattle.days.specs.declared.Day.{Day}
@@ -30,7 +28,8 @@ use Rattle.run.specs.declared.Step.{Step}
 use Rattle.run.specs.declared.Step.the-variants.{Nonce, Map, Agree, Confirm}
 use Rattle.run.specs.Run.{passwordOf, rightsNamed, stepNumber, isLast, nextStep}
 use Rattle.event.specs.declared.Event.{Event}
-use Rattle.trust.specs.Trust.{trustPointFits, pointsFit, linked}
+use Rattle.trust.specs.Trust.{pointsFit, pointsHeld, linked}
+use Rattle.trust.proofs.Laws.{Holds, firstNamed, by-name}
 use Rattle.trust.specs.declared.Points.{Points}
 use Rattle.fields.specs.declared.asked.Asked.{Asked}
 use Rattle.standing.specs.declared.Opened.{Opened}
@@ -47,11 +46,11 @@ use Rattle.session.specs.Session.{bareSession}
 use Rattle.token.specs.declared.state.Token.{Token}
 use Rattle.token.specs.State.{resetOf, startOf, contextOf}
 use Rattle.token.specs.After.{choiceTaken, staged, stepPassed, opened, runClosed, trialLost, issuerSelected, linkTaken, dvTaken, extended, terminalTaken, announced, unblocked, unblockedByPuk, afterOf}
-use Rattle.reached.proofs.Fits.{InLimits, Holds, as-newest, as-previous, Fits, is-refused, is-lost, is-chosen, is-stepped, is-opened, is-run-closed, is-trial-lost, is-selected, is-link-taken, is-dv-taken, is-terminal-taken, is-announced, is-challenged, is-proven, is-proof-lost, is-chip-key-chosen, is-authenticated, is-chip-lost, not-passed, is-read, is-changed, is-unblocked-puk, is-unblocked, is-activated, is-deactivated}
+use Rattle.reached.proofs.Fits.{InLimits, Fits, is-refused, is-lost, is-chosen, is-stepped, is-opened, is-run-closed, is-trial-lost, is-selected, is-link-taken, is-dv-taken, is-terminal-taken, is-announced, is-challenged, is-proven, is-proof-lost, is-chip-key-chosen, is-authenticated, is-chip-lost, not-passed, is-read, is-changed, is-unblocked-puk, is-unblocked, is-activated, is-deactivated}
 use Rattle.reached.proofs.Within.{context-of}
 use Rattle.record.specs.Facts.{Fact, Taken, StepPassed, Accepted, Announced, Challenged, Proved, ProofFailed, ChipPassed, Lost, Nothing, TrustPoint, Seen, isKey, linkedBy, heldAfter, rightsOf}
 use Rattle.record.specs.Rule.{given, orElse, lastChoice, steps, fourSteps, naming, named, confirmed, Dv, ChainRights, dvBy, lastDv, under, chain, announcedKey, challenged, proven, authenticated}
-use Rattle.record.specs.Claim.{trustPoints}
+use Rattle.record.specs.Claim.{asTrustPoints, trustPoints}
 use Rattle.record.proofs.Words.{factAt}
 
 -- ---- what a session holds, in the rule's terms
@@ -106,17 +105,12 @@ pub record Inv (now : List TrustPoint) (ps : Points) (c : Context) (r : List See
 -- ---- small facts
 
 -- a trust point that is held is found by its name
-differ : (ps : Points) → pointsFit ps ≡ true → ps .two ≡ true → sameName (ps .previous .name) (ps .newest .name) ≡ false
-unfolding pointsFit
-differ ps f two =
-    not-true (sameName (ps .previous .name) (ps .newest .name))
-    (and-r (trustPointFits (ps .previous)) (not (sameName (ps .previous .name) (ps .newest .name)))
-    (or-then (ps .two) (trustPointFits (ps .previous) && not (sameName (ps .previous .name) (ps .newest .name)))
-    (and-r (trustPointFits (ps .newest)) (not (ps .two) || (trustPointFits (ps .previous) && not (sameName (ps .previous .name) (ps .newest .name)))) f) two))
+rights-first : (l : List Certificate) (n : Name) → rightsOf (asTrustPoints l) n ≡ firstNamed n (λ p. some (p .rights)) none l
+rights-first [] n = refl
+rights-first (p ∷ older) n = ap (λ (x : Option Rights). cond (sameName n (p .name)) (some (p .rights)) x) (rights-first older n)
 
 found : (ps : Points) {p : Certificate} (n : Name) → pointsFit ps ≡ true → Holds ps p → sameName n (p .name) ≡ true → rightsOf (trustPoints ps) n ≡ some (p .rights)
-found ps n f as-newest e = rw e
-found ps n f (as-previous two) e = rw (same-for n (ps .previous .name) (ps .newest .name) e ∙ differ ps f two, two, e)
+found ps n f g e = rights-first (pointsHeld ps) n ∙ by-name ps f n (λ q. some (q .rights)) none g e
 
 no-rights : (o : Opened) → confirmedBy o NoRights ≡ none
 no-rights Nobody = refl

@@ -19,7 +19,8 @@ use Rattle.objects.specs.Chain.{counted, taken}
 use Rattle.objects.specs.Objects.{secondTagByte, tagOf, lengthAfter81, lengthAfter82, lenOf, headerOf, objectsOf, objects, object, objectsIn, foundIn}
 use Rattle.record.specs.Entries.{after}
 use Rattle.record.specs.Rule.{readable}
-use Rattle.reply.specs.Bytes.{lengthBytes, object as object·Bytes·reply}
+use Rattle.headers.specs.Encode.{tagBytes, lengthBytes, header, object as object·headers}
+use Rattle.brought.specs.Brought.{broughtNone}
 use Rattle.buffers.specs.Lay.{over}
 use Rattle.reply.specs.Reply.{dataOf as dataOf·Reply·reply, replyOf}
 use Rattle.authorization.specs.Authorization.{sharedBy, authorization}
@@ -27,7 +28,7 @@ use Rattle.session_limits.specs.SessionLimits.{trustedFits, dvFits, terminalFit
 use Rattle.moment.specs.Moment.{momentOf}
 use Rattle.standing.specs.Standing.{noChain}
 use Rattle.token.specs.After.{choiceTaken, staged, stepPassed, opened, runClosed, trialLost, issuerSelected, linkTaken, dvTaken, terminalTaken, announced, unblocked, unblockedByPuk, afterOf}
-use Rattle.certify.specs.Certify.{selectPlan, repeats, late, underEnding, underPlan, verifyPlan}
+use Rattle.certify.specs.Certify.{selectPlan, repeats, late, issuedEnding, underPlan, verifyPlan}
 use Rattle.checks.specs.Checks.{choosePlan, runPlan, chipPlan, generalPlan, announcePlan, readPlan, changePlan, unblockPlan, activePlan}
 use Rattle.token.specs.Limits.{inLimits}
 use Rattle.token.specs.Plan.{commandOf, timedOf, requestedOf, guarded, planOf}
@@ -47,7 +48,7 @@ use Rattle.record.specs.Worked.{AllWorked}
 use Rattle.record.specs.Judged.{AllJudged}
 
 pub all-worked : AllWorked
-unfolding unread isPublicKey isSignature extThen lastThen firstThen rightsThen ownThen keyThen issuerThen versionThen bodyThen bodyOf signedOf keyObjects isSigned afterShort afterLong dataThen extendedOf afterFour afterHeader formOf kindOf headedOf shapeOf settledBy awaitsBy wordOf endsBy passesBy judgedOf awaitedOf endingOf keyThen·Announce·fields auxiliaryThen terminalThen protocolThen announceOf dataOf refusing asking askedOf referenceIn chipOf chosenBy rightsThen·Choice·fields passwordThen protocolThen·Choice·fields choiceOf only selecting verifying announcing heldIn generalOf selectOf verified verifyOf proofOf pinOf reading lastly fitted lastOf holds counted taken secondTagByte tagOf lengthAfter81 lengthAfter82 lenOf headerOf objectsOf objects object objectsIn foundIn after readable lengthBytes object·Bytes·reply over dataOf·Reply·reply replyOf sharedBy authorization trustedFits dvFits terminalFits chainFits groundFits contextFits momentOf noChain choiceTaken staged stepPassed opened runClosed trialLost issuerSelected linkTaken dvTaken terminalTaken announced unblocked unblockedByPuk afterOf selectPlan repeats late underEnding underPlan verifyPlan choosePlan runPlan chipPlan generalPlan announcePlan readPlan changePlan unblockPlan activePlan inLimits commandOf timedOf requestedOf guarded planOf resetOf startOf noToken madeOf layoutOf replyTo stepOf trustPointFits onePoint twoPoints pointsFit knows found linked copiedInto isDate dayFits isDay dated before later isKey keyOf noKey keyIs keyFits keyStands isName nameOf noName nameFits sameName noCertificate certificateFits expired withKey rightsFit roleOf isRights granted andOf common groupMask readsGroup wordNumber
+unfolding unread isPublicKey isSignature extThen lastThen firstThen rightsThen ownThen keyThen issuerThen versionThen bodyThen bodyOf signedOf keyObjects isSigned afterShort afterLong dataThen extendedOf afterFour afterHeader formOf kindOf headedOf shapeOf settledBy awaitsBy wordOf endsBy passesBy judgedOf awaitedOf endingOf keyThen·Announce·fields auxiliaryThen terminalThen protocolThen announceOf dataOf refusing asking askedOf referenceIn chipOf chosenBy rightsThen·Choice·fields passwordThen protocolThen·Choice·fields choiceOf only selecting verifying announcing heldIn generalOf selectOf verified verifyOf proofOf pinOf reading lastly fitted lastOf holds counted taken secondTagByte tagOf lengthAfter81 lengthAfter82 lenOf headerOf objectsOf objects object objectsIn foundIn after readable tagBytes lengthBytes header object·headers broughtNone over dataOf·Reply·reply replyOf sharedBy authorization trustedFits dvFits terminalFits chainFits groundFits contextFits momentOf noChain choiceTaken staged stepPassed opened runClosed trialLost issuerSelected linkTaken dvTaken terminalTaken announced unblocked unblockedByPuk afterOf selectPlan repeats late issuedEnding underPlan verifyPlan choosePlan runPlan chipPlan generalPlan announcePlan readPlan changePlan unblockPlan activePlan inLimits commandOf timedOf requestedOf guarded planOf resetOf startOf noToken madeOf layoutOf replyTo stepOf trustPointFits onePoint twoPoints pointsFit knows found linked copiedInto isDate dayFits isDay dated before later isKey keyOf noKey keyIs keyFits keyStands isName nameOf noName nameFits sameName noCertificate certificateFits expired withKey rightsFit roleOf isRights granted andOf common groupMask readsGroup wordNumber
 all-worked = ((refl, refl), (refl, refl), (refl, refl), (refl, refl), (refl, refl), (refl, refl), (refl, refl), (refl, refl))
 
 pub all-judged : AllJudged

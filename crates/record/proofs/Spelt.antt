@@ -20,6 +20,7 @@ use Rattle.verdicts.specs.declared.Happened.{Happened}
 use Rattle.verdicts.proofs.Decisions.{answer-in}
 use Rattle.reply.specs.Bytes.{wordBytes}
 use Rattle.reply.specs.Reply.{room, silent as isSilent, dataOf, replyOf}
+use Rattle.trust.specs.Trust.{namesOf}
 use Rattle.trust.specs.declared.Points.{Points}
 use Rattle.answer.specs.Answer.{layoutOf, replyTo}
 use Rattle.token.specs.declared.state.Token.{Token}
@@ -76,7 +77,7 @@ unfolding replyTo replyOf
 reply-spells h e first size r l = rw (r, le-ltb longest (length first) l) (go (isSilent (layoutOf e)) refl)
   where
     content : List ℕ
-    content = dataOf (layoutOf e) first (h .newest .name) (h .previous .name) (h .two)
+    content = dataOf (layoutOf e) first (namesOf h)
 
     go : (b : Bool) → isSilent (layoutOf e) ≡ b → Spells (wordOf e) (cond b [] (content ++ wordBytes (wordNumber (wordOf e))))
     go true s = silent (silent-word e s)

@@ -1,6 +1,6 @@
 -- What is claimed of every record. Assumes nothing: these are definitions.
 use Prim.Native.Nat.{ℕ, _+_, _≤_}
-use mathlib.Core.Bool.{Bool, true, cond}
+use mathlib.Core.Bool.{Bool, true}
 use mathlib.Core.Path.{_≡_}
 use mathlib.Core.List.{List, [], _∷_, _++_}
 use lib.ListN.{take}
@@ -11,6 +11,8 @@ use Rattle.status.specs.declared.Word.the-variants.{Done, Outside}
 use Rattle.plans.specs.declared.Note.the-variants.{Protected}
 use Rattle.reply.specs.Bytes.{wordBytes}
 use Rattle.reply.specs.Reply.{room}
+use Rattle.certificate.specs.declared.Certificate.{Certificate}
+use Rattle.trust.specs.Trust.{pointsHeld}
 use Rattle.trust.specs.declared.Points.{Points}
 use Rattle.token.specs.declared.state.Token.{Token}
 use Rattle.status.specs.declared.Intake.the-variants.{Accepted}
@@ -26,8 +28,12 @@ abbrev pub begun : Points → Day → Token
 begun h d = madeOf h d .token
 
 -- the trust points of a personalisation, newest first
+abbrev pub asTrustPoints : List Certificate → List TrustPoint
+asTrustPoints [] = []
+asTrustPoints (p ∷ older) = trustPoint p ∷ asTrustPoints older
+
 abbrev pub trustPoints : Points → List TrustPoint
-trustPoints h = trustPoint (h .newest) ∷ cond (h .two) (trustPoint (h .previous) ∷ []) []
+trustPoints h = asTrustPoints (pointsHeld h)
 
 -- "B0, P1 80+n, any P2, Le present", in the short form and in the extended one
 pub data ReadOf (n : ℕ) : List ℕ → Type 0 where

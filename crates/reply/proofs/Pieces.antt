@@ -1,209 +1,195 @@
--- Objects and replies from the pieces that the writers put. Assumes nothing.
-use Prim.Native.Nat.{ℕ, _+_, _-_, _≤_, _<_, min}
-use mathlib.Core.Bool.{Bool, true, false}
-use mathlib.Core.Path.{_≡_, refl, sym, ap, _∙_}
-use mathlib.Core.List.{List, [], _∷_, _++_}
+-- Replies from the pieces that the writers put. Assumes nothing.
+use Prim.Native.Nat.{ℕ, _+_, _-_, _≤_, min}
+use mathlib.Core.Bool.{true, false}
+use mathlib.Core.Path.{_≡_, refl, sym, ap, subst, _∙_}
+use mathlib.Core.List.{List, [], _++_}
 use native.Mathlib.Omega.{arith}
+use mir.Val.{Fits}
+use mir.Syntax.{w16, w64}
 use lib.ListN.{length, take, drop, length-append, length-drop}
-use borrow.Author.Tests.{lt-ltb, le-ltb}
 use Rattle.laws.proofs.Lists.{clip-long, take-clip, drop-min, from}
 use Rattle.strings.specs.Bytes.{longest}
 use Rattle.names.specs.Names.{places, nameBytes}
 use Rattle.names.specs.declared.Name.{Name}
+use Rattle.names.specs.declared.Held.{Held}
 use Rattle.buffers.specs.Lay.{over, Put, Written}
 use Rattle.buffers.specs.Room.{fitting}
-use Rattle.buffers.proofs.Laying.{over-first, over-none, over-length, over-over, fitting-all}
-use Rattle.reply.specs.Bytes.{wordBytes, lengthBytes, header, object, sizeOf}
+use Rattle.buffers.proofs.Laying.{over-first, over-none, over-length}
+use Rattle.headers.specs.Encode.{header, object, sizeOf, objectOf}
+use Rattle.headers.proofs.Pieces.{renamed, whole, joined, both-fit, object-size, object-is, size-most}
+use Rattle.reply.specs.Bytes.{wordBytes}
 use Rattle.reply.specs.Reply.{room, nonce, pointNames, nonceToken}
 
--- ---- lengths
-
-length-short : (n : ℕ) → n < 128 → n ∷ [] ≡ lengthBytes n
-unfolding lengthBytes
-length-short n h = rw (lt-ltb _ _ h)
-
-length-long : (n : ℕ) → 128 ≤ n → 0x81 ∷ n ∷ [] ≡ lengthBytes n
-unfolding lengthBytes
-length-long n h = rw (le-ltb _ _ h)
-
-object-size : (tag : ℕ) (s : List ℕ) → length (object tag s) ≡ sizeOf (length s)
-unfolding object
-object-size tag s = simp length-append (omega arith)
-
--- ---- a piece, then another
-
-joined : (at k r : ℕ) (s t o₀ o₁ o₂ : List ℕ) → k ≡ at + length s → o₁ ≡ over at s o₀ → r ≡ k + length t → o₂ ≡ over k t o₁ → k ≤ length o₀
-    → Put at (s ++ t) o₀ o₂ r
-joined at k r s t o₀ o₁ o₂ e f g h l = (omega (arith, length-append s t), rw (h, f) (over-over at k s t o₀ e l))
-
--- a piece by another name
-renamed : (at r : ℕ) (s t o₀ o₁ : List ℕ) → s ≡ t → Put at s o₀ o₁ r → Put at t o₀ o₁ r
-renamed at r s t o₀ o₁ e p = rw e at p
-
--- a piece that has room
-whole : (at r : ℕ) (s o₀ o₁ : List ℕ) → at + length s ≤ length o₀ → r ≡ at + length (fitting at s o₀) → o₁ ≡ over at (fitting at s o₀) o₀ → Put at s o₀ o₁ r
-whole at r s o₀ o₁ h e f = renamed at r (fitting at s o₀) s o₀ o₁ (fitting-all at s o₀ h) (e, f)
-
 -- from the buffer's start
-started : (r : ℕ) (s o₀ o₁ : List ℕ) → Put 0 s o₀ o₁ r → Written s o₀ o₁ r
+pub started : (r : ℕ) (s o₀ o₁ : List ℕ) → Put 0 s o₀ o₁ r → Written s o₀ o₁ r
 started r s o₀ o₁ p = (omega arith, p .1 ∙ over-first s o₀)
 
--- ---- what the writers put
+-- ---- a name, as far as its array goes
 
-pub both-put : (at k r a b : ℕ) (o₀ o₁ o₂ : List ℕ) → at + 2 ≤ length o₀ → k ≡ at + 1 → o₁ ≡ over at (a ∷ []) o₀ → r ≡ k + 1 → o₂ ≡ over k (b ∷ []) o₁ → Put at (a ∷ b ∷ []) o₀ o₂ r
-both-put at k r a b o₀ o₁ o₂ l e f g h = joined at k r (a ∷ []) (b ∷ []) o₀ o₁ o₂ e f g h (omega arith)
-
--- a header: its tag, then a length of one byte or of two
-pub header-short : (at r tag n : ℕ) (o₀ o₁ : List ℕ) → n < 128 → r ≡ at + 2 → o₁ ≡ over at (tag ∷ n ∷ []) o₀ → Put at (header tag n) o₀ o₁ r
-header-short at r tag n o₀ o₁ b e f = renamed at r (tag ∷ n ∷ []) (header tag n) o₀ o₁ (ap (λ (s : List ℕ). tag ∷ s) (length-short n b)) (e, f)
-
-pub header-long : (at k r tag n : ℕ) (o₀ o₁ o₂ : List ℕ) → at + 3 ≤ length o₀ → 128 ≤ n → k ≡ at + 2 → o₁ ≡ over at (tag ∷ 0x81 ∷ []) o₀ → r ≡ k + 1 → o₂ ≡ over k (n ∷ []) o₁ → Put at (header tag n) o₀ o₂ r
-header-long at k r tag n o₀ o₁ o₂ l b e f g h =
-    renamed at r (tag ∷ 0x81 ∷ n ∷ []) (header tag n) o₀ o₂ (ap (λ (s : List ℕ). tag ∷ s) (length-long n b))
-    (joined at k r (tag ∷ 0x81 ∷ []) (n ∷ []) o₀ o₁ o₂ e f g h (omega arith))
-
--- an object: its header, then its content
-module _ (at k r : ℕ) (s o₀ o₁ o₂ : List ℕ) (l : at + 3 + length s ≤ length o₀) (b : k ≤ at + 3) (m : length o₁ ≡ length o₀)
-    (g : r ≡ k + length (fitting k s o₁)) (h : o₂ ≡ over k (fitting k s o₁) o₁) where
-  content : Put k s o₁ o₂ r
-  content = whole k r s o₁ o₂ (omega arith) g h
-
-  pub object-most : r ≤ at + 3 + length s
-  object-most = omega (arith, content .0)
-
-  pub object-put : (tag : ℕ) → k ≡ at + length (header tag (length s)) → o₁ ≡ over at (header tag (length s)) o₀ → Put at (object tag s) o₀ o₂ r
-  unfolding object
-  object-put tag e f = joined at k r (header tag (length s)) s o₀ o₁ o₂ e f (content .0) (content .1) (omega arith)
-
--- the names: one alone, or two
-module _ (at k : ℕ) (newest previous : Name) (two : Bool) (o₀ o₁ : List ℕ) (l : at + 38 ≤ length o₀) (b : k ≤ at + 19) (e : k ≡ at + length (object 0x87 (nameBytes newest)))
-    (f : o₁ ≡ over at (object 0x87 (nameBytes newest)) o₀) where
-  pub one-name : two ≡ false → Put at (pointNames newest previous two) o₀ o₁ k
-  one-name t = rw t (joined at k k (object 0x87 (nameBytes newest)) [] o₀ o₁ o₁ e f (omega arith) (over-none k o₁) (omega arith))
-
-  pub two-names : (r : ℕ) (o₂ : List ℕ) → two ≡ true → r ≡ k + length (object 0x88 (nameBytes previous)) → o₂ ≡ over k (object 0x88 (nameBytes previous)) o₁ → Put at (pointNames newest previous two) o₀ o₂ r
-  two-names r o₂ t g h = rw t (joined at k r (object 0x87 (nameBytes newest)) (object 0x88 (nameBytes previous)) o₀ o₁ o₂ e f g h (omega arith))
-
--- a name, as far as its array goes
-module _ (at m : ℕ) (name : Name) (o₀ : List ℕ) (e : length (name .bytes) ≡ places) (h : m ≡ min (name .len) places) where
+module _ (m : ℕ) (name : Name) (e : length (name .bytes) ≡ places) (h : m ≡ min (name .len) places) where
   cut : length (take m (name .bytes)) ≡ m
   cut = sym (clip-long (name .bytes) places (name .len) m e h)
 
-  pub name-fits : length (take m (name .bytes)) < 256
-  name-fits = let c = cut in omega arith
+  own : take m (name .bytes) ≡ nameBytes name
+  own = take-clip (name .bytes) places (name .len) m e h
 
-  pub name-room : at + 19 ≤ length o₀ → at + 3 + length (take m (name .bytes)) ≤ length o₀
-  name-room l = let c = cut in omega arith
+  pub name-put : (at r tag : ℕ) (o₀ o₁ : List ℕ) → r ≡ at + length (fitting at (objectOf tag (take m (name .bytes))) o₀) → o₁ ≡ over at (fitting at (objectOf tag (take m (name .bytes))) o₀) o₀
+      → Put at (fitting at (object tag (nameBytes name)) o₀) o₀ o₁ r
+  name-put at r tag o₀ o₁ =
+      let c = cut in
+      renamed at r (objectOf tag (take m (name .bytes))) (object tag (nameBytes name)) o₀ o₁ (object-is tag (take m (name .bytes)) (omega arith) ∙ ap (object tag) own)
 
-  pub name-most : (r : ℕ) → r ≤ at + 3 + length (take m (name .bytes)) → r ≤ at + 19
-  name-most r b = let c = cut in omega arith
+  pub name-size : (r tag : ℕ) → r ≡ sizeOf tag m → r ≡ length (object tag (nameBytes name))
+  name-size r tag f = f ∙ ap (λ (k : ℕ). sizeOf tag k) (sym cut ∙ ap length own) ∙ sym (object-size tag (nameBytes name))
 
-  pub name-put : (r tag : ℕ) (o₁ : List ℕ) → r ≡ at + length (object tag (take m (name .bytes))) → o₁ ≡ over at (object tag (take m (name .bytes))) o₀ → Put at (object tag (nameBytes name)) o₀ o₁ r
-  name-put r tag o₁ f g = renamed at r (object tag (take m (name .bytes))) (object tag (nameBytes name)) o₀ o₁ (ap (object tag) (take-clip (name .bytes) places (name .len) m e h)) (f, g)
+pub name-most : (len m r tag : ℕ) → m ≡ min len places → r ≡ sizeOf tag m → r ≤ 21
+name-most len m r tag h f = omega (arith, size-most tag m)
 
-  pub name-size : (r : ℕ) → r ≡ sizeOf m → r ≡ sizeOf (length (nameBytes name))
-  name-size r f = f ∙ ap (λ (k : ℕ). sizeOf k) (sym cut ∙ ap length (take-clip (name .bytes) places (name .len) m e h))
+-- ---- the names: one alone, or two
 
--- a string in two parts
+module _ (at k : ℕ) (held : Held) (o₀ o₁ : List ℕ) (l : at + length (pointNames held) ≤ length o₀) (e : k ≡ at + length (fitting at (object 0x87 (nameBytes (held .newest))) o₀))
+    (f : o₁ ≡ over at (fitting at (object 0x87 (nameBytes (held .newest))) o₀) o₀) where
+  pub one-name : held .two ≡ false → Put at (pointNames held) o₀ o₁ k
+  one-name t =
+      let m = rw t at l in
+      let n = length-append (object 0x87 (nameBytes (held .newest))) [] in
+      let p = whole at k (object 0x87 (nameBytes (held .newest))) o₀ o₁ (omega arith) e f in
+      rw t (joined at k k (object 0x87 (nameBytes (held .newest))) [] o₀ o₁ o₁ (p .0) (p .1) (omega arith) (over-none k o₁) (omega (arith, p .0)))
+
+  pub two-names : (r : ℕ) (o₂ : List ℕ) → held .two ≡ true → r ≡ k + length (fitting k (object 0x88 (nameBytes (held .previous))) o₁) → o₂ ≡ over k (fitting k (object 0x88 (nameBytes (held .previous))) o₁) o₁
+      → Put at (pointNames held) o₀ o₂ r
+  two-names r o₂ t g h = rw t (both-fit at k r (object 0x87 (nameBytes (held .newest))) (object 0x88 (nameBytes (held .previous))) o₀ o₁ o₂ (rw t at l) e f g h)
+
+module _ (held : Held) (m : ℕ) (e : m ≡ length (object 0x87 (nameBytes (held .newest)))) where
+  pub one-size : held .two ≡ false → m ≡ length (pointNames held)
+  one-size t = let n = length-append (object 0x87 (nameBytes (held .newest))) [] in rw t (omega arith)
+
+  pub two-size : (n : ℕ) → n ≡ length (object 0x88 (nameBytes (held .previous))) → held .two ≡ true → m + n ≡ length (pointNames held)
+  two-size n f t = rw (t, length-append (object 0x87 (nameBytes (held .newest))) (object 0x88 (nameBytes (held .previous))), e, f)
+
+-- ---- a string in two parts
+
 module _ (k : ℕ) (s : List ℕ) (h : k ≡ min nonce (length s)) where
   pub front-long : k ≡ length (take k s)
   front-long = clip-long s (length s) nonce k refl h
 
-  front : take k s ≡ take nonce s
-  front = take-clip s (length s) nonce k refl h
-
-  back : take (length s - k) (drop k s) ≡ drop nonce s
-  back = from s k ∙ ap (λ (j : ℕ). drop j s) h ∙ drop-min nonce s
+  back-is : take (length s - k) (drop k s) ≡ drop nonce s
+  back-is = from s k ∙ ap (λ (j : ℕ). drop j s) h ∙ drop-min nonce s
 
   back-long : length (take (length s - k) (drop k s)) ≡ length s - k
   back-long = ap length (from s k) ∙ length-drop k s
 
-  pub front-fits : length s ≤ longest → length (take k s) < 256
-  front-fits m = let f = front-long in omega arith
+  front : length s ≤ longest → objectOf 0x81 (take k s) ≡ object 0x81 (take nonce s)
+  front l = let f = front-long in object-is 0x81 (take k s) (omega arith) ∙ ap (object 0x81) (take-clip s (length s) nonce k refl h)
 
-  pub back-fits : length s ≤ longest → length (take (length s - k) (drop k s)) < 256
-  back-fits m = let d = back-long in omega arith
+  back : length s ≤ longest → objectOf 0x82 (take (length s - k) (drop k s)) ≡ object 0x82 (drop nonce s)
+  back l = let d = back-long in object-is 0x82 (take (length s - k) (drop k s)) (omega arith) ∙ ap (object 0x82) back-is
 
-  module _ (at : ℕ) (o₀ : List ℕ) (l : at + 6 + length s ≤ length o₀) where
-    pub front-room : at + 3 + length (take k s) ≤ length o₀
-    front-room = let f = front-long in omega arith
+  pub pair-put : (at b r : ℕ) (o₀ o₁ o₂ : List ℕ) → length s ≤ longest → at + length (nonceToken s) ≤ length o₀
+      → b ≡ at + length (fitting at (objectOf 0x81 (take k s)) o₀) → o₁ ≡ over at (fitting at (objectOf 0x81 (take k s)) o₀) o₀
+      → r ≡ b + length (fitting b (objectOf 0x82 (take (length s - k) (drop k s))) o₁) → o₂ ≡ over b (fitting b (objectOf 0x82 (take (length s - k) (drop k s))) o₁) o₁
+      → Put at (nonceToken s) o₀ o₂ r
+  pair-put at b r o₀ o₁ o₂ l m e f g i =
+      let p = renamed at b (objectOf 0x81 (take k s)) (object 0x81 (take nonce s)) o₀ o₁ (front l) e f in
+      let q = renamed b r (objectOf 0x82 (take (length s - k) (drop k s))) (object 0x82 (drop nonce s)) o₁ o₂ (back l) g i in
+      both-fit at b r (object 0x81 (take nonce s)) (object 0x82 (drop nonce s)) o₀ o₁ o₂ m (p .0) (p .1) (q .0) (q .1)
 
-    pub back-room : (b : ℕ) (o₁ : List ℕ) → length o₁ ≡ length o₀ → b ≤ at + 3 + length (take k s) → b + 3 + length (take (length s - k) (drop k s)) ≤ length o₁
-    back-room b o₁ e g = let f = front-long in let d = back-long in omega arith
+  module _ (m n : ℕ) (e : m ≡ sizeOf 0x81 k) (f : n ≡ sizeOf 0x82 (length s - k)) where
+    pub pair-most : m + n ≤ 10 + length s
+    pair-most = omega (arith, size-most 0x81 k, size-most 0x82 (length s - k))
 
-    pub pair-most : (b r : ℕ) → b ≤ at + 3 + length (take k s) → r ≤ b + 3 + length (take (length s - k) (drop k s)) → r ≤ at + 6 + length s
-    pair-most b r g₁ g₂ = let f = front-long in let d = back-long in omega arith
+    pub pair-fits : length s ≤ longest → Fits w64 (m + n)
+    pair-fits l = let p = pair-most in record { fits = omega arith }
 
-    pub pair-put : (b r : ℕ) (o₁ o₂ : List ℕ) → b ≤ at + 3 + length (take k s) → b ≡ at + length (object 0x81 (take k s)) → o₁ ≡ over at (object 0x81 (take k s)) o₀
-        → r ≡ b + length (object 0x82 (take (length s - k) (drop k s))) → o₂ ≡ over b (object 0x82 (take (length s - k) (drop k s))) o₁ → Put at (nonceToken s) o₀ o₂ r
-    pair-put b r o₁ o₂ g e₁ f₁ e₂ f₂ =
-        let f = front-long in
-        renamed at r (object 0x81 (take k s) ++ object 0x82 (take (length s - k) (drop k s))) (nonceToken s) o₀ o₂ (rw (front, back))
-        (joined at b r (object 0x81 (take k s)) (object 0x82 (take (length s - k) (drop k s))) o₀ o₁ o₂ e₁ f₁ e₂ f₂ (omega arith))
-
-  pub pair-size : (m n : ℕ) → m ≡ sizeOf k → n ≡ sizeOf (length s - k) → m + n ≡ length (nonceToken s)
-  pair-size m n e f =
-      rw (← front, ← back, length-append (object 0x81 (take k s)) (object 0x82 (take (length s - k) (drop k s))), object-size, object-size, ← front-long, back-long, e, f)
-
--- ---- lengths reckoned before
-
-pub short-size : (n r : ℕ) → n < 128 → r ≡ 2 + n → r ≡ sizeOf n
-short-size n r h e = let f = ap length (length-short n h) in omega arith
-
-pub long-size : (n r : ℕ) → 128 ≤ n → r ≡ 3 + n → r ≡ sizeOf n
-long-size n r h e = let f = ap length (length-long n h) in omega arith
-
-module _ (newest previous : Name) (two : Bool) (m : ℕ) (e : m ≡ sizeOf (length (nameBytes newest))) where
-  pub one-size : two ≡ false → m ≡ length (pointNames newest previous two)
-  one-size t =
-      let x = object-size 0x87 (nameBytes newest) in
-      let y = length-append (object 0x87 (nameBytes newest)) [] in
-      rw t (omega arith)
-
-  pub two-size : (n : ℕ) → n ≡ sizeOf (length (nameBytes previous)) → two ≡ true → m + n ≡ length (pointNames newest previous two)
-  two-size n f t = rw (t, length-append (object 0x87 (nameBytes newest)) (object 0x88 (nameBytes previous)), object-size, object-size, e, f)
+    pub pair-size : m + n ≡ length (nonceToken s)
+    pair-size =
+        let a = ap length (take-clip s (length s) nonce k refl h) in
+        let b = ap length back-is in
+        let x = object-size 0x81 (take nonce s) in
+        let y = object-size 0x82 (drop nonce s) in
+        rw (length-append (object 0x81 (take nonce s)) (object 0x82 (drop nonce s)), x, y, e, f, ← a, ← b, ← front-long, back-long)
 
 -- ---- a whole reply: its data, then the word
 
-spoken : (a r w : ℕ) (s o₀ o₁ o₂ : List ℕ) → a ≤ length o₀ → a ≡ 0 + length s → o₁ ≡ over 0 s o₀ → r ≡ a + 2 → o₂ ≡ over a (wordBytes w) o₁
-    → Written (s ++ wordBytes w) o₀ o₂ r
-spoken a r w s o₀ o₁ o₂ l e f g h = started r (s ++ wordBytes w) o₀ o₂ (joined 0 a r s (wordBytes w) o₀ o₁ o₂ e f g h l)
+pub flat-said : (a r w : ℕ) (s o₀ o₁ o₂ : List ℕ) → room ≤ length o₀ → length s ≤ longest → a ≡ 0 + length (fitting 0 s o₀) → o₁ ≡ over 0 (fitting 0 s o₀) o₀
+    → r ≡ a + length (fitting a (wordBytes w) o₁) → o₂ ≡ over a (fitting a (wordBytes w) o₁) o₁ → Written (s ++ wordBytes w) o₀ o₂ r
+flat-said a r w s o₀ o₁ o₂ l m e f g h = started r (s ++ wordBytes w) o₀ o₂ (both-fit 0 a r s (wordBytes w) o₀ o₁ o₂ (omega (arith, length-append s (wordBytes w))) e f g h)
 
-module _ (a : ℕ) (s o₀ o₁ : List ℕ) (l : room ≤ length o₀) (m : length s ≤ longest) (e : a ≡ 0 + length (fitting 0 s o₀)) (f : o₁ ≡ over 0 (fitting 0 s o₀) o₀) where
-  flat-put : Put 0 s o₀ o₁ a
-  flat-put = whole 0 a s o₀ o₁ (omega arith) e f
+-- the lengths that are reckoned
+pub size-fits : (tag n r : ℕ) → n ≤ longest → r ≡ sizeOf tag n → Fits w16 r
+size-fits tag n r l e = record { fits = omega (arith, size-most tag n) }
 
-  pub flat-room : length o₁ ≡ length o₀ → a + 2 ≤ length o₁
-  flat-room q = omega (arith, flat-put .0)
+module _ (tag n i j : ℕ) (l : n ≤ longest) (e : i ≡ sizeOf tag n) (b : j ≤ 42) where
+  pub sum-fits : Fits w64 (i + j)
+  sum-fits = record { fits = omega (arith, size-most tag n) }
 
-  pub flat-said : (r w : ℕ) (o₂ : List ℕ) → r ≡ a + 2 → o₂ ≡ over a (wordBytes w) o₁ → Written (s ++ wordBytes w) o₀ o₂ r
-  flat-said r w o₂ g h = spoken a r w s o₀ o₁ o₂ (omega (arith, flat-put .0)) (flat-put .0) (flat-put .1) g h
+  pub sum-fits-16 : Fits w16 (i + j)
+  sum-fits-16 = record { fits = omega (arith, size-most tag n) }
 
 -- 7C: its header, with the length that was reckoned; what it holds; the word
-module _ (n a r w : ℕ) (o₀ o₁ o₃ : List ℕ) (l : room ≤ length o₀) (ea : a ≡ 0 + length (header 0x7C n)) (fa : o₁ ≡ over 0 (header 0x7C n) o₀) where
-  wrapped : (b : ℕ) (s o₂ : List ℕ) → b ≤ room → n ≡ length s → b ≡ a + length s → o₂ ≡ over a s o₁ → r ≡ b + 2 → o₃ ≡ over b (wordBytes w) o₂ → Written (object 0x7C s ++ wordBytes w) o₀ o₃ r
-  unfolding object
-  wrapped b s o₂ m e eb fb er fr =
-      let p = joined 0 a b (header 0x7C n) s o₀ o₁ o₂ ea fa eb fb (omega arith) in
-      let q = renamed 0 b (header 0x7C n ++ s) (object 0x7C s) o₀ o₂ (ap (λ (k : ℕ). header 0x7C k ++ s) e) p in
-      spoken b r w (object 0x7C s) o₀ o₂ o₃ (omega arith) (q .0) (q .1) er fr
+module _ (n a : ℕ) (o₀ o₁ : List ℕ) (l : room ≤ length o₀) (ea : a ≡ 0 + length (fitting 0 (header 0x7C n) o₀)) (fa : o₁ ≡ over 0 (fitting 0 (header 0x7C n) o₀) o₀) where
+  headed : Put 0 (header 0x7C n) o₀ o₁ a
+  headed = whole 0 a (header 0x7C n) o₀ o₁ (omega (arith, size-most 0x7C n)) ea fa
 
-  pub nest-said : (b tag : ℕ) (s o₂ : List ℕ) → length s ≤ longest → a ≤ 0 + 3 → b ≤ a + 3 + length s → n ≡ sizeOf (length s) → b ≡ a + length (object tag s) → o₂ ≡ over a (object tag s) o₁
-      → r ≡ b + 2 → o₃ ≡ over b (wordBytes w) o₂ → Written (object 0x7C (object tag s) ++ wordBytes w) o₀ o₃ r
-  nest-said b tag s o₂ m la lb e eb fb er fr = wrapped b (object tag s) o₂ (omega arith) (e ∙ sym (object-size tag s)) eb fb er fr
+  early : a ≤ 5
+  early = omega (arith, headed .0, size-most 0x7C n)
 
-  pub pair-said : (b : ℕ) (s o₂ : List ℕ) → length s ≤ longest → a ≤ 0 + 3 → b ≤ a + 6 + length s → n ≡ length (nonceToken s) → b ≡ a + length (nonceToken s) → o₂ ≡ over a (nonceToken s) o₁
-      → r ≡ b + 2 → o₃ ≡ over b (wordBytes w) o₂ → Written (object 0x7C (nonceToken s) ++ wordBytes w) o₀ o₃ r
-  pair-said b s o₂ m la lb e eb fb er fr = wrapped b (nonceToken s) o₂ (omega arith) e eb fb er fr
+  kept : length o₁ ≡ length o₀
+  kept = ap length (headed .1) ∙ over-length 0 (header 0x7C n) o₀ (omega (arith, size-most 0x7C n))
 
-  pub four-said : (b d i j : ℕ) (s o₂ o : List ℕ) (newest previous : Name) (two : Bool) → length s ≤ longest → a ≤ 0 + 3 → b ≤ a + 3 + length s → d ≤ b + 38
-      → i ≡ sizeOf (length s) → j ≡ length (pointNames newest previous two) → n ≡ i + j
-      → b ≡ a + length (object 0x86 s) → o₂ ≡ over a (object 0x86 s) o₁ → d ≡ b + length (pointNames newest previous two) → o ≡ over b (pointNames newest previous two) o₂
-      → r ≡ d + 2 → o₃ ≡ over d (wordBytes w) o → Written (object 0x7C (object 0x86 s ++ pointNames newest previous two) ++ wordBytes w) o₀ o₃ r
-  four-said b d i j s o₂ o newest previous two m la lb ld ei ej en eb fb ed fd er fr =
-      let names = pointNames newest previous two in
+  inside : (b tag : ℕ) (s o₂ : List ℕ) → length s ≤ longest → b ≡ a + length (fitting a (objectOf tag s) o₁) → o₂ ≡ over a (fitting a (objectOf tag s) o₁) o₁ → Put a (object tag s) o₁ o₂ b
+  inside b tag s o₂ m e f =
+      let p = renamed a b (objectOf tag s) (object tag s) o₁ o₂ (object-is tag s (omega arith)) e f in
+      whole a b (object tag s) o₁ o₂ (omega (arith, kept, early, object-size tag s, size-most tag (length s))) (p .0) (p .1)
+
+  pub pair-room : (s : List ℕ) → length s ≤ longest → n ≤ 10 + length s → n ≡ length (nonceToken s) → a + length (nonceToken s) ≤ length o₁
+  pair-room s m b e = omega (arith, kept, early)
+
+  pub names-room : (b j : ℕ) (s o₂ : List ℕ) (held : Held) → length s ≤ longest → j ≤ 42 → j ≡ length (pointNames held)
+      → b ≡ a + length (fitting a (objectOf 0x86 s) o₁) → o₂ ≡ over a (fitting a (objectOf 0x86 s) o₁) o₁ → b + length (pointNames held) ≤ length o₂
+  names-room b j s o₂ held m lj ej e f =
+      let p = inside b 0x86 s o₂ m e f in
       let x = object-size 0x86 s in
-      let y = length-append (object 0x86 s) names in
-      let z : length o₁ ≡ length o₀ = ap length fa ∙ over-length 0 (header 0x7C n) o₀ (omega arith) in
-      let p = joined a b d (object 0x86 s) names o₁ o₂ o eb fb ed fd (omega arith) in
-      wrapped d (object 0x86 s ++ names) o (omega arith) (omega arith) (p .0) (p .1) er fr
+      let y = size-most 0x86 (length s) in
+      let k = kept in
+      let i = early in
+      let z : length o₂ ≡ length o₁ = ap length (p .1) ∙ over-length a (object 0x86 s) o₁ (omega arith) in
+      omega (arith, p .0)
+
+  module _ (r w : ℕ) (o₃ : List ℕ) where
+    wrapped : (b : ℕ) (s o₂ : List ℕ) → n ≡ length s → 7 + length s ≤ room → b ≡ a + length s → o₂ ≡ over a s o₁ → r ≡ b + length (fitting b (wordBytes w) o₂) → o₃ ≡ over b (fitting b (wordBytes w) o₂) o₂
+        → Written (object 0x7C s ++ wordBytes w) o₀ o₃ r
+    unfolding object
+    wrapped b s o₂ e m eb fb er fr =
+        let i = early in
+        let x = length-append (header 0x7C n) s in
+        let h = size-most 0x7C n in
+        let p = joined 0 a b (header 0x7C n) s o₀ o₁ o₂ (headed .0) (headed .1) eb fb (omega arith) in
+        let z : length o₂ ≡ length o₀ = ap length (p .1) ∙ over-length 0 (header 0x7C n ++ s) o₀ (omega arith) in
+        let q = whole b r (wordBytes w) o₂ o₃ (omega arith) er fr in
+        subst (λ (k : ℕ). Written ((header 0x7C k ++ s) ++ wordBytes w) o₀ o₃ r) e
+        (started r ((header 0x7C n ++ s) ++ wordBytes w) o₀ o₃ (joined 0 b r (header 0x7C n ++ s) (wordBytes w) o₀ o₂ o₃ (p .0) (p .1) (q .0) (q .1) (omega arith)))
+
+    pub nest-said : (b tag : ℕ) (s o₂ : List ℕ) → length s ≤ longest → n ≡ sizeOf tag (length s) → b ≡ a + length (fitting a (objectOf tag s) o₁) → o₂ ≡ over a (fitting a (objectOf tag s) o₁) o₁
+        → r ≡ b + length (fitting b (wordBytes w) o₂) → o₃ ≡ over b (fitting b (wordBytes w) o₂) o₂ → Written (object 0x7C (object tag s) ++ wordBytes w) o₀ o₃ r
+    nest-said b tag s o₂ m e eb fb er fr =
+        let p = inside b tag s o₂ m eb fb in
+        let x = object-size tag s in
+        wrapped b (object tag s) o₂ (e ∙ sym x) (omega (arith, size-most tag (length s))) (p .0) (p .1) er fr
+
+    pub pair-said : (b : ℕ) (s o₂ : List ℕ) → length s ≤ longest → n ≤ 10 + length s → n ≡ length (nonceToken s) → b ≡ a + length (nonceToken s) → o₂ ≡ over a (nonceToken s) o₁
+        → r ≡ b + length (fitting b (wordBytes w) o₂) → o₃ ≡ over b (fitting b (wordBytes w) o₂) o₂ → Written (object 0x7C (nonceToken s) ++ wordBytes w) o₀ o₃ r
+    pair-said b s o₂ m j e eb fb er fr = wrapped b (nonceToken s) o₂ e (omega arith) eb fb er fr
+
+    pub four-said : (b d i j : ℕ) (s o₂ o : List ℕ) (held : Held) → length s ≤ longest → n ≡ i + j → i ≡ sizeOf 0x86 (length s) → j ≤ 42 → j ≡ length (pointNames held)
+        → b ≡ a + length (fitting a (objectOf 0x86 s) o₁) → o₂ ≡ over a (fitting a (objectOf 0x86 s) o₁) o₁ → d ≡ b + length (pointNames held) → o ≡ over b (pointNames held) o₂
+        → r ≡ d + length (fitting d (wordBytes w) o) → o₃ ≡ over d (fitting d (wordBytes w) o) o → Written (object 0x7C (object 0x86 s ++ pointNames held) ++ wordBytes w) o₀ o₃ r
+    four-said b d i j s o₂ o held m en ei lj ej eb fb ed fd er fr =
+        let x = object-size 0x86 s in
+        let y = size-most 0x86 (length s) in
+        let k = kept in
+        let t = early in
+        let v = length-append (object 0x86 s) (pointNames held) in
+        let p = inside b 0x86 s o₂ m eb fb in
+        let q = joined a b d (object 0x86 s) (pointNames held) o₁ o₂ o (p .0) (p .1) ed fd (omega (arith, p .0)) in
+        wrapped d (object 0x86 s ++ pointNames held) o (omega arith) (omega arith) (q .0) (q .1) er fr

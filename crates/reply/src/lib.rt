@@ -2,7 +2,7 @@
 ghost use lib.ListN.{length};
 ghost use Rattle.buffers.specs.Lay.{Written};
 ghost use Rattle.reply.specs.Reply.{replyOf};
-use names::Name;
+use names::Held;
 use strings::STRING;
 
 mod wire;
@@ -19,7 +19,7 @@ pub enum Layout {
     // The first string as it is.
     Flat,
     // 7C holding one object of this tag with the first string.
-    Nest(u8),
+    Nest(u16),
     // 7C holding 86 the first string, 87 the newest trust point's name, 88 the previous one's if held.
     Confirmed,
     // 7C holding 81 the first eight bytes of the first string and 82 the rest.
@@ -27,16 +27,8 @@ pub enum Layout {
 }
 
 // Writes the reply from the buffer's start, and answers its length.
-pub fn reply(
-    out: &mut [u8],
-    layout: Layout,
-    word: u16,
-    first: &[u8],
-    newest: Name,
-    previous: Name,
-    two: bool,
-) -> usize
-    ensures { λ r. ⌜ Written (replyOf (length (now (out .entry))) layout word (now (first .entry)) newest previous two) (now (out .entry)) (now (out .exit)) r ⌝ }
+pub fn reply(out: &mut [u8], layout: Layout, word: u16, first: &[u8], held: Held) -> usize
+    ensures { λ r. ⌜ Written (replyOf (length (now (out .entry))) layout word (now (first .entry)) held) (now (out .entry)) (now (out .exit)) r ⌝ }
 {
     if out.len() < ROOM {
         return 0;
@@ -49,7 +41,7 @@ pub fn reply(
         Layout::Bare => wire::put_word(&mut *out, 0, word),
         Layout::Flat => wire::flat(&mut *out, word, first),
         Layout::Nest(tag) => wire::nest(&mut *out, word, tag, first),
-        Layout::Confirmed => wire::confirmed(&mut *out, word, first, newest, previous, two),
+        Layout::Confirmed => wire::confirmed(&mut *out, word, first, held),
         Layout::Pair => wire::pair(&mut *out, word, first),
     }
 }

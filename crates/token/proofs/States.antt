@@ -7,8 +7,11 @@ use Rattle.days.specs.Days.{dayFits}
 use Rattle.certificate.specs.Certificate.{noCertificate}
 use Rattle.days.specs.declared.Day.{Day}
 use Rattle.certificate.specs.declared.Certificate.{Certificate}
-use Rattle.trust.specs.Trust.{onePoint, pointsFit, knows}
+use Rattle.trust.specs.Trust.{onePoint, pointsFit, knows, holds}
 use Rattle.trust.specs.declared.Points.{Points}
+use Rattle.event.specs.declared.Issuer.{Issuer}
+use Rattle.standing.specs.declared.Selected.{Selected}
+use Rattle.standing.specs.declared.Selected.the-variants.{Of}
 use Rattle.session.specs.declared.Session.{Session}
 use Rattle.standing.specs.Standing.{hasDv}
 use Rattle.session.specs.Session.{noSession}
@@ -48,9 +51,13 @@ reset-is t z e = rw e
 
 -- ---- limits
 
+-- a selection is judged by its issuer
+pub selection-is : (x : Selected) (i : Issuer) (h : Points) (dv r : Bool) → x ≡ Of i → r ≡ holds h i dv → r ≡ selectable x h dv
+selection-is x i h dv r e f = rw e f
+
 pub limits-all : (t : Token) (dated trusted parts held known chosen : Bool) → dated ≡ dayFits (t .today) → trusted ≡ pointsFit (t .points)
     → parts ≡ contextFits (t .session .context) (t .pin) → held ≡ hasDv (t .session .context .chain) → known ≡ knows (t .points) (t .session .context .chain .dv .name)
-    → chosen ≡ selectable (t .session .selected) (t .points .two) held
+    → chosen ≡ selectable (t .session .selected) (t .points) held
     → leb (t .pin) tries && leb (t .puk) uses && dated && trusted && parts && not (held && known) && chosen ≡ inLimits t
 unfolding inLimits
 limits-all t dated trusted parts held known chosen a b c d e f = rw (f, a, b, c, d, e)

@@ -2,8 +2,8 @@
 use mathlib.Core.Bool.{Bool, true, not, _&&_}
 use lib.Dec.{leb}
 use Rattle.days.specs.Days.{dayFits}
-use Rattle.trust.specs.Trust.{pointsFit, knows}
-use Rattle.event.specs.declared.Issuer.the-variants.{Newest, Previous, Dv}
+use Rattle.trust.specs.Trust.{pointsFit, knows, holds}
+use Rattle.trust.specs.declared.Points.{Points}
 use Rattle.standing.specs.declared.Selected.{Selected}
 use Rattle.standing.specs.declared.Selected.the-variants.{NoIssuer, Of}
 use Rattle.standing.specs.Standing.{hasDv}
@@ -13,11 +13,9 @@ use Rattle.token.specs.State.{uses, contextOf, chainOf}
 use Rattle.run.specs.Run.{tries}
 
 -- "Selectable: trust points and the chain's DV"
-abbrev pub selectable : Selected → Bool → Bool → Bool
-selectable NoIssuer two dv = true
-selectable (Of Newest) two dv = true
-selectable (Of Previous) two dv = two
-selectable (Of Dv) two dv = dv
+abbrev pub selectable : Selected → Points → (dv : Bool) → Bool
+selectable NoIssuer h dv = true
+selectable (Of i) h dv = holds h i dv
 
 -- "a counter, name, date, rights value or stored length breaks this paper, two names among trust points and chain DV are equal,
 -- the selection is not selectable, a PIN run stands at counter 0, confirmed rights stand outside a session opened by PIN or CAN,
@@ -36,4 +34,4 @@ inLimits t =
     -- "two names among trust points and chain DV are equal"
     && not (hasDv (chainOf t) && knows (t .points) (chainOf t .dv .name))
     -- "the selection is not selectable"
-    && selectable (t .session .selected) (t .points .two) (hasDv (chainOf t))
+    && selectable (t .session .selected) (t .points) (hasDv (chainOf t))

@@ -2,22 +2,18 @@
 ghost use mathlib.Core.Path.{_≡_};
 ghost use Rattle.token.specs.Limits.{selectable, inLimits};
 use super::state::Token;
-use event::Issuer;
 use session_limits::context_fits;
 use standing::Selected;
+use trust::Points;
 
 // Whether a selection is one of the trust points held or the chain's DV.
-fn selectable(selected: Selected, two: bool, dv: bool) -> bool
-    ensures { λ r. ⌜ r ≡ selectable selected two dv ⌝ }
+fn selectable(selected: Selected, points: Points, dv: bool) -> bool
+    ensures { λ r. ⌜ r ≡ selectable selected points dv ⌝ }
 {
     let Selected::Of(issuer) = selected else {
         return true;
     };
-    match issuer {
-        Issuer::Newest => true,
-        Issuer::Previous => two,
-        Issuer::Dv => dv,
-    }
+    points.holds(issuer, dv)
 }
 
 impl Token {
@@ -26,7 +22,6 @@ impl Token {
         ensures { λ b. ⌜ b ≡ inLimits self ⌝ }
     {
         let points = self.points;
-        let two = points.two;
         let session = self.session;
         let selected = session.selected;
         let context = session.context;
@@ -39,7 +34,7 @@ impl Token {
         let parts = context_fits(context, self.pin);
         let held = chain.has_dv();
         let known = points.knows(name);
-        let chosen = selectable(selected, two, held);
+        let chosen = selectable(selected, points, held);
         (self.pin <= Token::TRIES)
             & (self.puk <= Token::USES)
             & dated

@@ -1,1 +1,2 @@
 pub mod TrustPoints
+pub mod Laws

@@ -1,10 +1,12 @@
 -- "newest trust point and perhaps a previous one". Assumes nothing: these are definitions.
 use mathlib.Core.Bool.{Bool, true, false, cond, not, _&&_, _||_}
+use mathlib.Core.List.{List, [], _∷_}
 use Rattle.names.specs.Names.{sameName}
 use Rattle.rights.specs.Rights.{roleOf}
 use Rattle.roles.specs.Roles.{isCvca}
 use Rattle.certificate.specs.Certificate.{noCertificate, certificateFits}
 use Rattle.names.specs.declared.Name.{Name}
+use Rattle.names.specs.declared.Held.{Held}
 use Rattle.certificate.specs.declared.Certificate.{Certificate}
 use Rattle.event.specs.declared.Issuer.{Issuer}
 use Rattle.event.specs.declared.Issuer.the-variants.{Newest, Previous, Dv}
@@ -39,6 +41,20 @@ abbrev pub issuerOf : Points → Issuer → Certificate → Certificate
 issuerOf h Newest dv = h .newest
 issuerOf h Previous dv = h .previous
 issuerOf h Dv dv = dv
+
+-- an issuer is there to be selected: "trust points and the chain's DV", if that stands
+abbrev pub holds : Points → Issuer → (stands : Bool) → Bool
+holds h Newest stands = true
+holds h Previous stands = h .two
+holds h Dv stands = stands
+
+-- the points held, newest first
+abbrev pub pointsHeld : Points → List Certificate
+pointsHeld h = h .newest ∷ cond (h .two) (h .previous ∷ []) []
+
+-- their names, as a reply shows them
+abbrev pub namesOf : Points → Held
+namesOf h = record { newest = h .newest .name; previous = h .previous .name; two = h .two }
 
 -- "a link becomes newest, newest becomes previous"
 unfoldable pub linked : Points → Certificate → Points

@@ -1,8 +1,9 @@
 // The trust points that a token holds: the newest, and perhaps a previous one.
 ghost use mathlib.Core.Path.{_≡_};
-ghost use Rattle.trust.specs.Trust.{trustPointFits, onePoint, twoPoints, pointsFit, knows, found, issuerOf, linked};
+ghost use Rattle.trust.specs.Trust.{trustPointFits, onePoint, twoPoints, pointsFit, knows, found, issuerOf, holds, namesOf, linked};
 use certificate::Certificate;
 use event::Issuer;
+use names::Held;
 use names::Name;
 
 pub struct Points {
@@ -102,6 +103,32 @@ impl Points {
             Issuer::Newest => self.newest,
             Issuer::Previous => self.previous,
             Issuer::Dv => dv,
+        }
+    }
+
+    // Whether an issuer is there to be selected; whether the chain's DV stands is said.
+    pub fn holds(self, which: Issuer, stands: bool) -> bool
+        ensures { λ r. ⌜ r ≡ holds self which stands ⌝ }
+    {
+        match which {
+            Issuer::Newest => true,
+            Issuer::Previous => self.two,
+            Issuer::Dv => stands,
+        }
+    }
+
+    // The names of the points held.
+    pub fn names(self) -> Held
+        ensures { λ r. ⌜ r ≡ namesOf self ⌝ }
+    {
+        let newest = self.newest;
+        let previous = self.previous;
+        let a = newest.name;
+        let b = previous.name;
+        Held {
+            newest: a,
+            previous: b,
+            two: self.two,
         }
     }
 

@@ -21,11 +21,10 @@ fn counters(out: &mut [u8], pin: u8, active: bool, puk: u8) -> usize {
 }
 
 fn trusted(out: &mut [u8], at: usize, today: Day, p: Points) -> usize {
-    let newest = p.newest;
-    let previous = p.previous;
+    let held = p.names();
     let a = labelled::day(&mut *out, at, b" today=", today);
-    let b = labelled::name(&mut *out, a, b" newest=", true, newest.name);
-    labelled::name(&mut *out, b, b" previous=", p.two, previous.name)
+    let b = labelled::name(&mut *out, a, b" newest=", true, held.newest);
+    labelled::name(&mut *out, b, b" previous=", held.two, held.previous)
 }
 
 fn opener(o: Opened) -> usize {

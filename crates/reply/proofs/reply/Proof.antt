@@ -10,8 +10,8 @@ unfolding dataOf
 reply-spec =
     tie.close
     (tie.spec
-    (λ c. no-room _ _ _ _ _ _ _ (search needs))
-    (λ c. too-long _ _ _ _ _ _ _ (search needs) (search needs))
+    (λ c. no-room _ _ _ _ _ (search needs))
+    (λ c. too-long _ _ _ _ _ (search needs) (search needs))
     (λ c. search needs)
     (λ c. search needs)
     (λ c κs. search needs)

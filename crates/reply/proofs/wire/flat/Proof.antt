@@ -1,6 +1,6 @@
 -- `reply::wire::flat` meets its contract. Assumes nothing.
 use borrow.Author.Needs.{needs}
-use Rattle.reply.proofs.Pieces.{flat-room, flat-said}
+use Rattle.reply.proofs.Pieces.{flat-said}
 use Rattle.reply.proofs.wire.flat.Statement.{statement}
 use Rattle.reply.proofs.wire.flat.Tie as tie
 
@@ -9,6 +9,6 @@ flat-spec =
     tie.close
     (tie.spec
     (λ c κs. search needs)
-    (λ c κs. search flat-room depth 6)
+    (λ c κs. search needs)
     (λ c. search needs)
     (λ c. search flat-said depth 6))

@@ -1,6 +1,6 @@
 -- `reply::wire::pair` meets its contract. Assumes nothing.
 use borrow.Author.Needs.{needs}
-use Rattle.reply.proofs.Pieces.{pair-said}
+use Rattle.reply.proofs.Pieces.{pair-room, pair-said}
 use Rattle.reply.proofs.wire.pair.Statement.{statement}
 use Rattle.reply.proofs.wire.pair.Tie as tie
 
@@ -9,8 +9,9 @@ pair-spec =
     tie.close
     (tie.spec
     (λ c κs. search needs)
+    (λ c. search needs)
     (λ c κs. search needs)
-    (λ c κs. search needs)
+    (λ c κs. (search needs, search pair-room depth 6))
     (λ c κs. search needs)
     (λ c. search needs)
     (λ c. search pair-said depth 6))

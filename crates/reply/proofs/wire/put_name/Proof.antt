@@ -1,7 +1,7 @@
 -- `reply::wire::put_name` meets its contract. Assumes nothing.
 use borrow.Author.Needs.{needs}
 use Rattle.laws.proofs.Lists.{clip-in, clip-long}
-use Rattle.reply.proofs.Pieces.{name-fits, name-room, name-most, name-put}
+use Rattle.reply.proofs.Pieces.{name-put}
 use Rattle.reply.proofs.wire.put_name.Statement.{statement}
 use Rattle.reply.proofs.wire.put_name.Tie as tie
 
@@ -12,6 +12,6 @@ put-name-spec =
     (λ c κs. search needs)
     (λ c. search (clip-in, needs))
     (λ c. search (clip-long, needs))
-    (λ c κs. (search (name-fits, needs), search (name-room, needs)))
+    (λ c κs. search needs)
     (λ c. search needs)
-    (λ c. (search (name-most, needs) depth 6, search (name-put, needs) depth 6)))
+    (λ c. search (name-put, needs) depth 6))

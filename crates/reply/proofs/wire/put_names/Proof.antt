@@ -11,6 +11,6 @@ put-names-spec =
     (λ c κs. search needs)
     (λ c κs. search needs)
     (λ c. search needs)
-    (λ c. (search needs, search two-names depth 6))
+    (λ c. search two-names depth 6)
     (λ c. search needs)
-    (λ c. (search needs, search one-name depth 6)))
+    (λ c. search one-name depth 6))

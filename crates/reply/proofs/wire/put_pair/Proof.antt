@@ -1,6 +1,6 @@
 -- `reply::wire::put_pair` meets its contract. Assumes nothing.
 use borrow.Author.Needs.{needs}
-use Rattle.reply.proofs.Pieces.{front-long, front-fits, front-room, back-fits, back-room, pair-most, pair-put}
+use Rattle.reply.proofs.Pieces.{front-long, pair-put}
 use Rattle.reply.proofs.wire.put_pair.Statement.{statement}
 use Rattle.reply.proofs.wire.put_pair.Tie as tie
 
@@ -10,10 +10,10 @@ put-pair-spec =
     (tie.spec
     (λ c κs. search needs)
     (λ c. search front-long)
-    (λ c κs. (search front-fits, search front-room))
+    (λ c κs. search needs)
     (λ c. search needs)
     (λ c. search needs)
     (λ c. search needs)
-    (λ c κs. (search back-fits, search back-room))
+    (λ c κs. search needs)
     (λ c. search needs)
-    (λ c. (search pair-most depth 6, search pair-put depth 6)))
+    (λ c. search pair-put depth 6))
