@@ -3,7 +3,7 @@ use Prim.Native.Nat.{ℕ}
 use mathlib.Core.Bool.{Bool}
 use Rattle.laws.proofs.Pinned.{Pinned, pinned}
 use Rattle.days.specs.declared.Day.{Day}
-use Rattle.keys.specs.declared.Key.{Key}
+use Rattle.brought.specs.declared.Brought.{Brought}
 use Rattle.names.specs.declared.Name.{Name}
 use Rattle.certificate.specs.declared.Certificate.{Certificate}
 use Rattle.run.specs.declared.Choice.{Choice}
@@ -24,8 +24,8 @@ choose-pinned pin puk active opened c = pinned _
 pub general-pinned : (z : Context) (pin : ℕ) (x : Content) → Pinned Plan (generalPlan (z .key) pin (z .stage) x)
 general-pinned z pin x = pinned _
 
-pub announce-pinned : (terminal n : Name) (k : Key) → Pinned Plan (announcePlan terminal n k)
-announce-pinned terminal n k = pinned _
+pub announce-pinned : (terminal : Name) (b : Brought) → Pinned Plan (announcePlan terminal b)
+announce-pinned terminal b = pinned _
 
 pub read-pinned : (z : Context) (n : ℕ) → Pinned Plan (readPlan z n)
 read-pinned z n = pinned _
@@ -42,5 +42,5 @@ set-active-pinned z done = pinned _
 pub select-pinned : (h : Points) (chain : Chain) (n : Name) → Pinned Plan (selectPlan h chain n)
 select-pinned h chain n = pinned _
 
-pub verify-pinned : (h : Points) (dv : Certificate) (today : Day) (selected : Selected) (n : Name) (p : Certificate) → Pinned Plan (verifyPlan h dv today selected n p)
-verify-pinned h dv today selected n p = pinned _
+pub verify-pinned : (h : Points) (dv : Certificate) (today : Day) (selected : Selected) (b : Brought) → Pinned Plan (verifyPlan h dv today selected b)
+verify-pinned h dv today selected b = pinned _

@@ -7,8 +7,9 @@ pub mod Command
 pub mod DeskToken
 pub mod Event
 pub mod Fields
+pub mod Headers
 pub mod Objects
-pub mod Order
+pub mod Outcome
 pub mod Reply
 pub mod Rights
 pub mod Run

@@ -1,17 +1,16 @@
 -- Any two outcomes of `reply` that its contract permits are equal. Assumes nothing.
 use Prim.Native.Nat.{ℕ}
-use mathlib.Core.Bool.{Bool}
 use mathlib.Core.Path.{_≡_}
 use mathlib.Core.List.{List}
 use lib.ListN.{length}
 use Rattle.laws.proofs.Pinned.{pinned}
-use Rattle.names.specs.declared.Name.{Name}
+use Rattle.names.specs.declared.Held.{Held}
 use Rattle.reply.specs.declared.Layout.{Layout}
 use Rattle.buffers.specs.Lay.{Written}
 use Rattle.reply.specs.Reply.{replyOf}
 
-pub reply-pinned : (layout : Layout) (word : ℕ) (first out : List ℕ) (newest previous : Name) (two : Bool) (r q : ℕ) (o p : List ℕ)
-    → Written (replyOf (length out) layout word first newest previous two) out o r
-    → Written (replyOf (length out) layout word first newest previous two) out p q
+pub reply-pinned : (layout : Layout) (word : ℕ) (first out : List ℕ) (held : Held) (r q : ℕ) (o p : List ℕ)
+    → Written (replyOf (length out) layout word first held) out o r
+    → Written (replyOf (length out) layout word first held) out p q
     → (r ≡ q) × (o ≡ p)
-reply-pinned layout word first out newest previous two r q o p a b = (pinned _ r q (a .0) (b .0), pinned _ o p (a .1) (b .1))
+reply-pinned layout word first out held r q o p a b = (pinned _ r q (a .0) (b .0), pinned _ o p (a .1) (b .1))

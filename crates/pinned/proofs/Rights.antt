@@ -4,7 +4,7 @@ use mathlib.Core.Bool.{Bool}
 use mathlib.Core.List.{List}
 use Rattle.laws.proofs.Pinned.{Pinned, pinned}
 use Rattle.rights.specs.Rights.{granted, rightsFit, roleOf, common, hasRight, readsGroup, canAllowed, pinManagement}
-use Rattle.roles.specs.Roles.{isCvca, isOfficial, isTerminal, isDv}
+use Rattle.roles.specs.Roles.{roleNumber, isCvca, isOfficial, isTerminal, isDv}
 use Rattle.rights.specs.declared.Rights.{Rights}
 use Rattle.roles.specs.declared.Role.{Role}
 use Rattle.rights.specs.declared.Granted.{Granted}
@@ -29,6 +29,9 @@ manages-pin-pinned r = pinned _
 
 pub reads-pinned : (r : Rights) (n : ℕ) → Pinned Bool (readsGroup r n)
 reads-pinned r n = pinned _
+
+pub role-number-pinned : (r : Role) → Pinned ℕ (roleNumber r)
+role-number-pinned r = pinned _
 
 pub is-cvca-pinned : (r : Role) → Pinned Bool (isCvca r)
 is-cvca-pinned r = pinned _

@@ -3,10 +3,13 @@ use Prim.Native.Nat.{ℕ}
 use mathlib.Core.Bool.{Bool}
 use Rattle.laws.proofs.Pinned.{Pinned, pinned}
 use Rattle.rights.specs.declared.Granted.{Granted}
-use Rattle.run.specs.Run.{passwordOf, rightsNamed, isPin, isCan, isPuk, stepNumber, isLast, nextStep}
+use Rattle.run.specs.Run.{passwordNumber, passwordOf, rightsNamed, isPin, isCan, isPuk, stepNumber, isLast, nextStep}
 use Rattle.run.specs.declared.Password.{Password}
 use Rattle.run.specs.declared.Choice.{Choice}
 use Rattle.run.specs.declared.Step.{Step}
+
+pub password-number-pinned : (p : Password) → Pinned ℕ (passwordNumber p)
+password-number-pinned p = pinned _
 
 pub is-pin-pinned : (p : Password) → Pinned Bool (isPin p)
 is-pin-pinned p = pinned _

@@ -2,9 +2,10 @@
 use mathlib.Core.Bool.{Bool}
 use Rattle.laws.proofs.Pinned.{Pinned, pinned}
 use Rattle.names.specs.declared.Name.{Name}
+use Rattle.names.specs.declared.Held.{Held}
 use Rattle.certificate.specs.declared.Certificate.{Certificate}
 use Rattle.event.specs.declared.Issuer.{Issuer}
-use Rattle.trust.specs.Trust.{onePoint, twoPoints, pointsFit, knows, found, issuerOf, linked}
+use Rattle.trust.specs.Trust.{onePoint, twoPoints, pointsFit, knows, found, issuerOf, holds, namesOf, linked}
 use Rattle.trust.specs.declared.Points.{Points}
 use Rattle.trust.specs.declared.Trusted.{Trusted}
 
@@ -28,3 +29,9 @@ issuer-pinned h i dv = pinned _
 
 pub linked-pinned : (h : Points) (link : Certificate) → Pinned Points (linked h link)
 linked-pinned h link = pinned _
+
+pub holds-pinned : (h : Points) (i : Issuer) (stands : Bool) → Pinned Bool (holds h i stands)
+holds-pinned h i stands = pinned _
+
+pub names-pinned : (h : Points) → Pinned Held (namesOf h)
+names-pinned h = pinned _

@@ -39,7 +39,7 @@ use Rattle.verdicts.specs.declared.Answered.{Answered}
 use Rattle.verdicts.specs.declared.Happened.{Happened}
 use Rattle.plans.specs.Plans.{settledBy}
 use Rattle.verdicts.specs.Verdicts.{endsBy, endingOf, decidedOf}
-use Rattle.order.specs.Order.{grounded}
+use Rattle.outcome.specs.Outcome.{grounded}
 use Rattle.fields.specs.Given.{only}
 use Rattle.fields.specs.Asked.{askedOf, askedBy, asking, dataOf}
 use Rattle.fields.specs.declared.asked.Ask.the-variants.{Read as AskRead}
