@@ -92,18 +92,17 @@ fn issued(
 {
     let name = brought.name;
     let certificate = brought.certificate;
-    let named = name.same(issuer.name);
     if !issues(which, role) {
-        return Ending::Settled(Event::Refused(Refusal::Data));
+        return Ending::Settled(Event::Refused(Refusal::Data)); // "else 6A80"
     }
     if repeats(points, dv, certificate.name, role) {
-        return Ending::Settled(Event::Refused(Refusal::Data));
+        return Ending::Settled(Event::Refused(Refusal::Data)); // "A new name differs .. (6A80)"
     }
-    if !named {
-        return Ending::Settled(Event::Refused(Refusal::NotFound));
+    if !name.same(issuer.name) {
+        return Ending::Settled(Event::Refused(Refusal::NotFound)); // "whose name must equal 42 (6A88)"
     }
     if late(today, certificate, issuer, role) {
-        return Ending::Settled(Event::Refused(Refusal::Unusable));
+        return Ending::Settled(Event::Refused(Refusal::Unusable)); // "last day before today (6984)"
     }
     let taken = taken(role, issuer.rights);
     Ending::Awaits(Job::Certificate, taken, Event::NotPassed)

@@ -18,16 +18,16 @@ pub fn choose(pin: u8, active: bool, puk: u8, opened: Opened, choice: Choice) ->
     let is_puk = w.is_puk();
     let can = opened.by_can();
     if is_pin & (pin == 0) {
-        return Event::Refused(Refusal::Blocked);
+        return Event::Refused(Refusal::Blocked); // "counter 0 is 6983"
     }
     if is_pin & !active {
-        return Event::Refused(Refusal::Unusable);
+        return Event::Refused(Refusal::Unusable); // "inactive 6984"
     }
     if is_pin & (pin == 1) & !can {
-        return Event::Refused(Refusal::Moment);
+        return Event::Refused(Refusal::Moment); // "counter 1 unless the CAN opened this session is 6985"
     }
     if is_puk & (puk == 0) {
-        return Event::Refused(Refusal::Blocked);
+        return Event::Refused(Refusal::Blocked); // "PUK with no uses is 6983"
     }
     Event::Chosen(choice, pin)
 }
@@ -89,13 +89,13 @@ pub fn unblock(opened: Opened, right: bool, pin: u8, puk: u8) -> Event
 {
     let own = opened.by_puk();
     if !(own | right) {
-        return Event::Refused(Refusal::Lacking);
+        return Event::Refused(Refusal::Lacking); // "With no such ground: 6982"
     }
     if own & (puk == 0) {
-        return Event::Refused(Refusal::Blocked);
+        return Event::Refused(Refusal::Blocked); // "none left 6983"
     }
     if pin == TRIES {
-        return Event::Refused(Refusal::Moment);
+        return Event::Refused(Refusal::Moment); // "Counter 3 is 6985, after 6983"
     }
     if own {
         return Event::UnblockedByPuk;

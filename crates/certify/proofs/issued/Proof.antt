@@ -11,10 +11,10 @@ issued-spec =
     tie.close
     (tie.spec
     (λ c κs. search needs)
-    (λ c κs. search needs)
     (λ c. search checks depth 8)
     (λ c κs. search needs)
     (λ c. search checks depth 8)
+    (λ c κs. search needs)
     (λ c. search checks depth 8)
     (λ c κs. search needs)
     (λ c. search checks depth 8)
