@@ -15,7 +15,7 @@ use Rattle.reply.specs.declared.Layout.{Layout}
 use Rattle.reply.specs.declared.Layout.the-variants.{Silent, Bare, Flat, Nest, Confirmed, Pair}
 use Rattle.reply.specs.Reply.{replyOf}
 
--- "Reply 7C holding 80, 82, 84, 86"
+-- "Reply 7C holding 80, 82, 84 .., 86 .."
 abbrev pub stepTag : Step → ℕ
 stepTag Nonce = 0x80
 stepTag Map = 0x82

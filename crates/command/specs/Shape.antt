@@ -1,4 +1,4 @@
--- "command form; CLA; INS; P1-P2; presence of data and Le", in this order. Assumes nothing: these are definitions.
+-- "command form; CLA ..; INS; P1-P2; presence of data and Le", in this order. Assumes nothing: these are definitions.
 use Prim.Native.Nat.{ℕ}
 use mathlib.Core.Bool.{cond, not}
 use mathlib.Core.List.{List}

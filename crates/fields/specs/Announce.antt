@@ -1,4 +1,4 @@
--- "Announce: 80 (04 00 7F 00 07 02 02 02 02 03), 83 the chain's terminal, optional 67, 91 compressed key (1 to 66 bytes)." Each
+-- Announce: "80 (04 00 7F 00 07 02 02 02 02 03), 83 the chain's terminal .., optional 67, 91 compressed key (1 to 66 bytes)". Each
 -- `..Then` takes one object and hands the rest to the one that stands above it: read from `announceOf` upwards.
 -- Assumes nothing: these are definitions.
 use Prim.Native.Nat.{ℕ}

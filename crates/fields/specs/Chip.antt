@@ -1,4 +1,4 @@
--- "Choose chip key: 80 (04 00 7F 00 07 02 02 03 02 02), optional 84 of one byte." Assumes nothing: these are definitions.
+-- Choose chip key: "80 (04 00 7F 00 07 02 02 03 02 02), optional 84 of one byte." Assumes nothing: these are definitions.
 use Prim.Native.Nat.{ℕ}
 use mathlib.Core.List.{List, [], _∷_}
 use mathlib.Core.Bool.{false, cond}

@@ -1,4 +1,4 @@
--- "Choose password: 80 (04 00 7F 00 07 02 02 04 02 02), 83 with 01 MRZ, 02 CAN, 03 PIN or 04 PUK, optional 7F4C; with MRZ or PUK a
+-- Choose password: "80 (04 00 7F 00 07 02 02 04 02 02), 83 with 01 MRZ, 02 CAN, 03 PIN or 04 PUK, optional 7F4C; with MRZ or PUK a
 -- 7F4C is 6A80." Each `..Then` takes one object and hands the rest to the one that stands above it: read from `choiceOf` upwards.
 -- Assumes nothing: these are definitions.
 use Prim.Native.Nat.{ℕ}

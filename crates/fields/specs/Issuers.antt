@@ -1,4 +1,4 @@
--- "Select issuer: 83 name. Verify certificate: 7F4E, 5F37 (1 to 256 bytes)." Assumes nothing: these are definitions.
+-- Select issuer: "83 name"; verify certificate: "7F4E, 5F37 (1 to 256 bytes)". Assumes nothing: these are definitions.
 use Prim.Native.Nat.{ℕ}
 use mathlib.Core.List.{List}
 use mathlib.Core.Bool.{false}

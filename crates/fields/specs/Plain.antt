@@ -1,4 +1,4 @@
--- "Prove terminal, 1 to 256 bytes"; "Change PIN, six bytes 30..39". Assumes nothing: these are definitions.
+-- Prove terminal: "1 to 256 bytes"; change PIN: "six bytes 30..39". Assumes nothing: these are definitions.
 use Prim.Native.Nat.{ℕ}
 use mathlib.Core.List.{List}
 use mathlib.Core.Bool.{cond, _&&_}

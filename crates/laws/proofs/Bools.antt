@@ -57,7 +57,7 @@ and-7 a b c d e f g h =
     let k = and-5 a b c d e q in
     (k .0, k .1, k .2, k .3, k .4, and-r (a && b && c && d && e) f p, and-r (a && b && c && d && e && f) g h)
 
--- "not a, or b"
+-- not a, or b
 pub or-then : (a b : Bool) → not a || b ≡ true → a ≡ true → b ≡ true
 or-then true b e f = e
 or-then false b e f = true-false (sym f)

@@ -15,9 +15,9 @@ abbrev pub resetBy : Desk → List ℕ → Desk
 resetBy d line = cond (eqb (occurrences space line) 0) (resetDesk d) d
 
 abbrev pub Turned : Desk → List ℕ → Desk → Act → Type 0
--- "ok, or 6A80 where the token refuses it .., and then the token that was there stays"
+-- ok, or 6A80 where the token refuses it, and then the token that was there stays
 Turned d line e Personalises = Made d e
 Turned d line e Resets = e ≡ resetBy d line
 Turned d line e Sends = Stepped d e
--- "changes nothing"
+-- changes nothing
 Turned d line e Tells = e ≡ d

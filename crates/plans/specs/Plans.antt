@@ -22,7 +22,7 @@ settledBy e = record { ending = Settled e; brought = broughtNone }
 unfoldable pub awaitsBy : Job → (passed otherwise : Event) → Plan
 awaitsBy j x y = record { ending = Awaits j x y; brought = broughtNone }
 
--- "6987 / 6988: plain while a session is open / broken, or protected with none open"
+-- 6987 / 6988: "plain while a session is open / broken, or protected with none open"
 abbrev pub guardOf : Note → Bool → Guard
 guardOf Plain opened = cond opened (Drops Unprotected) Passes
 guardOf Protected opened = cond opened Passes (Drops Broken)

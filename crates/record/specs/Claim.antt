@@ -35,7 +35,7 @@ asTrustPoints (p ∷ older) = trustPoint p ∷ asTrustPoints older
 abbrev pub trustPoints : Points → List TrustPoint
 trustPoints h = asTrustPoints (pointsHeld h)
 
--- "B0, P1 80+n, any P2, Le present", in the short form and in the extended one
+-- "B0, P1 80+n, .. any P2, Le present", in the short form and in the extended one
 pub data ReadOf (n : ℕ) : List ℕ → Type 0 where
   short : (p2 le : ℕ) → ReadOf n (0x00 ∷ 0xB0 ∷ (0x80 + n) ∷ p2 ∷ le ∷ [])
   extended : (p2 high low : ℕ) → ReadOf n (0x00 ∷ 0xB0 ∷ (0x80 + n) ∷ p2 ∷ 0x00 ∷ high ∷ low ∷ [])

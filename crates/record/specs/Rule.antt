@@ -81,7 +81,7 @@ pub record ChainRights : Type 0 where
   pub dv : Rights
   pub terminal : Rights
 
--- a DV counts after (a) alone, "completed in that order"
+-- a DV counts after (a) alone: the parts are completed in their order
 abbrev pub dvBy : Bool → List TrustPoint → Name → Certificate → Role → Option Dv
 dvBy afterA points n p role = cond (isDv role && afterA) (some (record { trusted = rightsOf points n; name = p .name; rights = p .rights })) none
 

@@ -44,6 +44,6 @@ announcedWith z k = renewed z (z .context .chain) Announced k (z .selected)
 abbrev pub chainedTo : Session → Chain → Session
 chainedTo z c = renewed z c Idle noKey NoIssuer
 
--- an issuer is selected; "a selection keeps a challenge"
+-- an issuer is selected; a selection keeps a challenge
 abbrev pub selecting : Session → Issuer → Session
 selecting z i = record { context = z .context; selected = Of i }

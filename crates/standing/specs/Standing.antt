@@ -17,7 +17,7 @@ use Rattle.standing.specs.declared.Selected.the-variants.{NoIssuer, Of}
 use Rattle.standing.specs.declared.Stage.{Stage}
 use Rattle.standing.specs.declared.Stage.the-variants.{Run, Idle, Announced as AtAnnounced, Challenged as AtChallenged, Proven as AtProven, ChipKeyChosen as AtChosen, Authenticated as AtAuthenticated}
 
--- ---- who opened it: "A session is open when, and only when, a password opened it"
+-- ---- who opened it: a session is open when, and only when, a password opened it
 
 abbrev pub isOpen : Opened → Bool
 isOpen Nobody = false

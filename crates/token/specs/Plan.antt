@@ -1,4 +1,4 @@
--- "Order: 6F00; protection; command form; CLA; INS; P1-P2; presence of data and Le (6700); moment; data (6A80, wrong length too);
+-- "Order: 6F00; protection; command form; CLA ..; INS; P1-P2; presence of data and Le (6700); moment; data (6A80, wrong length too);
 -- 6982; 6A88; 6983; 6984; verdict." Read from the end upwards: planOf (6F00; protection), requestedOf (form to presence), timedOf
 -- (moment), commandOf (data, and the rest). Assumes nothing: these are definitions.
 use mathlib.Core.Bool.{Bool, cond, not}
@@ -50,7 +50,7 @@ commandOf t a Deactivate = activePlan (contextOf t) Deactivated
 unfoldable pub timedOf : Token → Asked → Kind → Bool → Ask → Plan
 timedOf t a k chained ask = cond (not (momentOf (t .session) k chained)) (settledBy (Refused Moment)) (commandOf t a ask)
 
--- command form; CLA; INS; P1-P2; presence of data and Le
+-- command form; CLA ..; INS; P1-P2; presence of data and Le
 unfoldable pub requestedOf : Token → Asked → Request → Plan
 requestedOf t a (Faulty w) = settledBy (Refused w)
 requestedOf t a (Asks k chained ask) = timedOf t a k chained ask

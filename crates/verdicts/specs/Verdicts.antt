@@ -69,7 +69,7 @@ judgedOf p (Passed n) j x y a s = cond (matches j (p .brought .key) s) (passesBy
 judgedOf p Failed j x y a s = endsBy p y
 judgedOf p Missing j x y a s = endsBy p y
 
--- "A result for another job, or one whose strings have other lengths than the job's, counts as none"
+-- "A result for another job, or one whose strings have other lengths than the job's .., counts as none"
 unfoldable pub awaitedOf : Plan → Answered → Job → (passed otherwise : Event) (first : ℕ) (second : List ℕ) → Happened
 awaitedOf p r j x y a s = cond (eqb (jobNumber j) (jobNumber (r .job)) && jobFits j a (length s)) (judgedOf p (r .verdict) j x y a s) (endsBy p y)
 

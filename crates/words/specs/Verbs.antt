@@ -11,7 +11,7 @@ use Rattle.words.specs.declared.Act.the-variants.{Personalises, Sends, R
 use Rattle.words.specs.declared.Verb.{Verb}
 use Rattle.words.specs.declared.Verb.the-variants.{Silent, Overlong, Unknown, NoToken, Personalise, Reset, Send, Want, Read, Body, State}
 
--- "A line may be up to 8,192 bytes"
+-- a line may be up to 8,192 bytes
 abbrev pub longestLine : ℕ
 longestLine = 8192
 
@@ -41,7 +41,7 @@ state = 0x73 ∷ 0x74 ∷ 0x61 ∷ 0x74 ∷ 0x65 ∷ []
 abbrev pub aboutToken : List ℕ → Verb
 aboutToken w = cond (eqbs w reset) Reset (cond (eqbs w send) Send (cond (eqbs w want) Want (cond (eqbs w read) Read (cond (eqbs w state) State Unknown))))
 
--- "Before the first accepted personalisation send, want, read, reset and state answer ? no token"
+-- before the first accepted personalisation send, want, read, reset and state answer ? no token
 abbrev pub ifHeld : Bool → Verb → Verb
 ifHeld held Unknown = Unknown
 ifHeld held Reset = cond held Reset NoToken
@@ -59,7 +59,7 @@ ifHeld held Body = Body
 abbrev pub namedBy : List ℕ → Bool → Verb
 namedBy w held = cond (eqbs w personalise) Personalise (cond (eqbs w body) Body (ifHeld held (aboutToken w)))
 
--- "an empty line, a line that starts with #": nothing
+-- an empty line, a line that starts with #: nothing
 abbrev pub spokenOf : List ℕ → Bool → Verb
 spokenOf [] held = Silent
 spokenOf (c ∷ s) held = cond (eqb c 0x23) Silent (namedBy (wordAt 0 (c ∷ s)) held)
@@ -72,7 +72,7 @@ abbrev pub actOf : Verb → Act
 actOf Personalise = Personalises
 actOf Send = Sends
 actOf Reset = Resets
--- "changes nothing"
+-- changes nothing
 actOf Want = Tells
 actOf Read = Tells
 actOf Body = Tells

@@ -14,7 +14,7 @@ partOf b (suc k) s = partOf b k (drop (suc (before b s)) s)
 abbrev pub space : ℕ
 space = 0x20
 
--- "Words are separated by single spaces"
+-- words are separated by single spaces
 abbrev pub wordAt : ℕ → List ℕ → List ℕ
 wordAt k line = partOf space k line
 
