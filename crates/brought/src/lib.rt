@@ -5,7 +5,8 @@ use certificate::Certificate;
 use keys::Key;
 use names::Name;
 
-// The name in 83 or a certificate's issuer, the certificate, the key announced; each `none()` where the command brought none.
+// The name in 83 or a certificate's issuer, the certificate, the key announced; each `none()` where the command brought none. In the
+// chip key's plan the key is the session's, to be compared.
 pub struct Brought {
     pub name: Name,
     pub certificate: Certificate,

@@ -26,7 +26,7 @@ use Rattle.plans.specs.declared.Job.the-variants.{Nothing, Step, Certificate as
 use Rattle.verdicts.specs.declared.Answered.{Answered}
 use Rattle.verdicts.specs.declared.Verdict.the-variants.{Passed, Failed, Missing}
 use Rattle.reply.specs.Reply.{room}
-use Rattle.trust.specs.Trust.{onePoint}
+use Rattle.trust.specs.Trust.{onePoint, namesOf}
 use Rattle.standing.specs.declared.Opened.{Opened}
 use Rattle.standing.specs.declared.Opened.the-variants.{Nobody, By}
 use Rattle.standing.specs.declared.Reach.the-variants.{ToDv, ToTerminal}
@@ -198,7 +198,7 @@ pub record Values : Type 0 where
   -- a day earlier: 6984, of both
   pub p9 : (certified 20260502 noChain Newest verifyDv .bytes ≡ 0x69 ∷ 0x84 ∷ []) × (certified 20260301 toDv Dv verifyTerminal .bytes ≡ 0x69 ∷ 0x84 ∷ [])
   -- a link accepted: UTCVCAAT00002 is the newest trust point then
-  pub p9-link : (certified 20300101 noChain Newest verifyLink .bytes ≡ 0x90 ∷ 0x00 ∷ []) × (certified 20300101 noChain Newest verifyLink .token .points .newest .name ≡ linkName)
+  pub p9-link : (certified 20300101 noChain Newest verifyLink .bytes ≡ 0x90 ∷ 0x00 ∷ []) × (namesOf (certified 20300101 noChain Newest verifyLink .token .points) .newest ≡ linkName)
   -- length 81 7F refused, 81 80 read
   pub p10 : (headerOf (0x53 ∷ 0x81 ∷ 0x7F ∷ replicate 0x7F 0x00) ≡ NoHeader) × (headerOf (0x53 ∷ 0x81 ∷ 0x80 ∷ replicate 0x80 0x00) ≡ Header 0x53 false 3 0x83)
   -- proof passed, read before chip key: 6982; the same session authenticated reads

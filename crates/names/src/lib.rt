@@ -13,7 +13,8 @@ pub struct Name {
     pub len: usize,
 }
 
-// The names of the trust points held: the newest, and the previous where there are two.
+// The names of the trust points held, as a reply shows them: the newest, and the previous where there are two. Here, since the reply
+// knows no trust points.
 pub struct Held {
     pub newest: Name,
     pub previous: Name,

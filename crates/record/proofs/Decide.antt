@@ -75,7 +75,7 @@ use Rattle.token.specs.Plan.{commandOf, timedOf, requestedOf, guarded, planOf}
 use Rattle.token.specs.Step.{Exchange, Stepped, happenedOf, nextOf, endedBy, stepOf}
 use Rattle.reached.proofs.Fits.{InLimits, in-limits, fits}
 use Rattle.reached.proofs.Within.{InContext, context-of, reset-in, step-in, made-in}
-use Rattle.record.specs.Entries.{Entry, Reset, Sent, prescribed, after, reached, Shown, shownAt, shown}
+use Rattle.record.specs.Entries.{Entry, Reset, Sent, after, reached, Shown, shownAt, shown}
 use Rattle.record.specs.Facts.{Fact, TrustPoint, Seen, factBy, factOf, factsOf, requestFact, heldAfter, held, seen}
 use Rattle.record.specs.Rule.{given, ChainRights, confirmed, chain, proven, authenticated, bitsAgree, readable}
 use Rattle.record.specs.Claim.{begun, trustPoints, ReadOf, short, extended, ReadsNow, recordSays, Exactly, Claim, ClaimBytes, ClaimWithin}

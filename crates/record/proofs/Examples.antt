@@ -54,9 +54,9 @@ all-worked = ((refl, refl), (refl, refl), (refl, refl), (refl, refl), (refl, ref
 pub all-judged : AllJudged
 unfolding readable sameName nameOf noName copiedInto keyOf noKey keyIs roleOf
 all-judged = (
-  (refl, refl, refl, refl, refl, refl, refl, refl, refl, refl),
-  (refl, refl, refl, refl, refl, refl, refl, refl, refl, refl, refl, refl, refl),
+  (refl, refl, refl, refl, refl, refl, refl, refl, refl, refl, refl, refl),
+  (refl, refl, refl, refl, refl, refl, refl, refl, refl, refl, refl, refl, refl, refl, refl, refl, refl),
   (refl, refl, refl, refl, refl, refl, refl),
-  (refl, refl, refl, refl, refl, refl),
+  (refl, refl, refl, refl, refl, refl, refl),
   (refl, refl, refl, refl, refl, refl, refl, refl, refl, refl),
 )

@@ -1,7 +1,7 @@
 -- The prescribed word is what the reply's last two bytes spell. Assumes nothing.
 use Prim.Native.Nat.{ℕ, _≤_}
-use mathlib.Core.Bool.{Bool, true, false, cond}
-use mathlib.Core.Path.{_≡_, refl, sym, subst}
+use mathlib.Core.Bool.{Bool, true, false, cond, _&&_}
+use mathlib.Core.Path.{_≡_, refl, sym}
 use mathlib.Core.List.{List, [], _++_}
 use native.Mathlib.Omega.{arith}
 use borrow.Author.Tests.{le-ltb}
@@ -10,7 +10,10 @@ use lib.ListN.{length, take, length-take}
 use Rattle.laws.proofs.Bools.{true-false}
 use Rattle.strings.specs.Bytes.{longest}
 use Rattle.status.specs.Words.{wordNumber}
-use Rattle.status.specs.declared.Word.the-variants.{Outside as W6F00}
+use Rattle.status.specs.declared.Word.the-variants.{Done, Tries, Outside as W6F00}
+use Rattle.run.specs.Run.{passwordOf, isPin, tries}
+use Rattle.event.specs.declared.Loss.{Loss}
+use Rattle.event.specs.declared.Loss.the-variants.{Unprotected, Broken}
 use Rattle.event.specs.declared.Refusal.{Refusal}
 use Rattle.event.specs.declared.Refusal.the-variants.{Length, Lacking, Blocked, Unusable, Moment, Data, Parameters, NotFound, Instruction, Class, Outside}
 use Rattle.event.specs.declared.Event.{Event}
@@ -23,9 +26,8 @@ use Rattle.reply.specs.Reply.{room, silent as isSilent, dataOf, replyOf}
 use Rattle.trust.specs.Trust.{namesOf}
 use Rattle.trust.specs.declared.Points.{Points}
 use Rattle.answer.specs.Answer.{layoutOf, replyTo}
-use Rattle.token.specs.declared.state.Token.{Token}
 use Rattle.token.specs.Plan.{planOf}
-use Rattle.token.specs.Step.{Exchange, Stepped, happenedOf, nextOf, endedBy, stepOf}
+use Rattle.token.specs.Step.{Stepped, happenedOf, nextOf, endedBy, stepOf}
 use Rattle.record.specs.Claim.{Spells, silent, spelt, ClaimSpelt}
 
 -- 6F00 alone is silent
@@ -71,6 +73,58 @@ silent-word Activated h = true-false (sym h)
 silent-word Deactivated h = true-false (sym h)
 silent-word NotPassed h = true-false (sym h)
 
+-- and all others are spoken
+spoken-refusal : (w : Refusal) → isSilent (layoutOf (Refused w)) ≡ false → wordOf (Refused w) ≡ W6F00 → ⊥
+unfolding layoutOf wordOf
+spoken-refusal Length s h = let z : _≡_ {A = ℕ} 0 1 = cc in omega arith
+spoken-refusal Lacking s h = let z : _≡_ {A = ℕ} 0 1 = cc in omega arith
+spoken-refusal Blocked s h = let z : _≡_ {A = ℕ} 0 1 = cc in omega arith
+spoken-refusal Unusable s h = let z : _≡_ {A = ℕ} 0 1 = cc in omega arith
+spoken-refusal Moment s h = let z : _≡_ {A = ℕ} 0 1 = cc in omega arith
+spoken-refusal Data s h = let z : _≡_ {A = ℕ} 0 1 = cc in omega arith
+spoken-refusal Parameters s h = let z : _≡_ {A = ℕ} 0 1 = cc in omega arith
+spoken-refusal NotFound s h = let z : _≡_ {A = ℕ} 0 1 = cc in omega arith
+spoken-refusal Instruction s h = let z : _≡_ {A = ℕ} 0 1 = cc in omega arith
+spoken-refusal Class s h = let z : _≡_ {A = ℕ} 0 1 = cc in omega arith
+spoken-refusal Outside s h = true-false s
+
+spoken-loss : (l : Loss) → wordOf (Lost l) ≡ W6F00 → ⊥
+unfolding wordOf
+spoken-loss Unprotected h = let z : _≡_ {A = ℕ} 0 1 = cc in omega arith
+spoken-loss Broken h = let z : _≡_ {A = ℕ} 0 1 = cc in omega arith
+
+spoken-choice : (b : Bool) (n : ℕ) → cond b (Tries n) Done ≡ W6F00 → ⊥
+spoken-choice true n h = let z : _≡_ {A = ℕ} 0 1 = cc in omega arith
+spoken-choice false n h = let z : _≡_ {A = ℕ} 0 1 = cc in omega arith
+
+spoken : (e : Event) → isSilent (layoutOf e) ≡ false → wordOf e ≡ W6F00 → ⊥
+unfolding wordOf
+spoken (Refused w) s h = spoken-refusal w s h
+spoken (Lost l) s h = spoken-loss l h
+spoken (Chosen c n) s h = spoken-choice (isPin (passwordOf c) && ltb n tries) n h
+spoken (StepPassed c p) s h = let z : _≡_ {A = ℕ} 0 1 = cc in omega arith
+spoken (Opened c) s h = let z : _≡_ {A = ℕ} 0 1 = cc in omega arith
+spoken RunClosed s h = let z : _≡_ {A = ℕ} 0 1 = cc in omega arith
+spoken (TrialLost n) s h = let z : _≡_ {A = ℕ} 0 1 = cc in omega arith
+spoken (Selected i) s h = let z : _≡_ {A = ℕ} 0 1 = cc in omega arith
+spoken LinkTaken s h = let z : _≡_ {A = ℕ} 0 1 = cc in omega arith
+spoken (DvTaken r) s h = let z : _≡_ {A = ℕ} 0 1 = cc in omega arith
+spoken TerminalTaken s h = let z : _≡_ {A = ℕ} 0 1 = cc in omega arith
+spoken Announced s h = let z : _≡_ {A = ℕ} 0 1 = cc in omega arith
+spoken Challenged s h = let z : _≡_ {A = ℕ} 0 1 = cc in omega arith
+spoken Proven s h = let z : _≡_ {A = ℕ} 0 1 = cc in omega arith
+spoken ProofLost s h = let z : _≡_ {A = ℕ} 0 1 = cc in omega arith
+spoken ChipKeyChosen s h = let z : _≡_ {A = ℕ} 0 1 = cc in omega arith
+spoken Authenticated s h = let z : _≡_ {A = ℕ} 0 1 = cc in omega arith
+spoken ChipLost s h = let z : _≡_ {A = ℕ} 0 1 = cc in omega arith
+spoken ReadAllowed s h = let z : _≡_ {A = ℕ} 0 1 = cc in omega arith
+spoken PinChanged s h = let z : _≡_ {A = ℕ} 0 1 = cc in omega arith
+spoken UnblockedByPuk s h = let z : _≡_ {A = ℕ} 0 1 = cc in omega arith
+spoken UnblockedByRight s h = let z : _≡_ {A = ℕ} 0 1 = cc in omega arith
+spoken Activated s h = let z : _≡_ {A = ℕ} 0 1 = cc in omega arith
+spoken Deactivated s h = let z : _≡_ {A = ℕ} 0 1 = cc in omega arith
+spoken NotPassed s h = let z : _≡_ {A = ℕ} 0 1 = cc in omega arith
+
 -- a reply that has room, of a string that is not too long
 reply-spells : (h : Points) (e : Event) (first : List ℕ) (size : ℕ) → ltb size room ≡ false → length first ≤ longest → Spells (wordOf e) (replyTo h e first size)
 unfolding replyTo replyOf
@@ -81,7 +135,7 @@ reply-spells h e first size r l = rw (r, le-ltb longest (length first) l) (go (i
 
     go : (b : Bool) → isSilent (layoutOf e) ≡ b → Spells (wordOf e) (cond b [] (content ++ wordBytes (wordNumber (wordOf e))))
     go true s = silent (silent-word e s)
-    go false s = spelt content
+    go false s = spelt (spoken e s) content
 
 pub word-spelt : ClaimSpelt
 unfolding stepOf

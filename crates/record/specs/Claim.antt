@@ -57,7 +57,7 @@ pub record Exactly (A B : Type 0) : Type 0 where
   pub enough : A → B
   pub needed : B → A
 
--- "From any accepted personalisation, after any series of commands, results and resets, a correct protected read of group n would
+-- Demand 3: "From any accepted personalisation, after any series of commands, results and resets, a correct protected read of group n would
 -- be allowed exactly when the record alone, judged by document 01's rule (a) to (e), says so." Of the definition's word:
 abbrev pub Claim : Type 0
 Claim =
@@ -90,7 +90,7 @@ ClaimWithin = (h : Points) (d : Day) → madeOf h d .made ≡ Accepted → (entr
 -- the prescribed word is what the reply's last two bytes spell; 6F00 has none
 pub data Spells (w : Word) : List ℕ → Type 0 where
   silent : w ≡ Outside → Spells w []
-  spelt : (content : List ℕ) → Spells w (content ++ wordBytes (wordNumber w))
+  spelt : (w ≡ Outside → ⊥) → (content : List ℕ) → Spells w (content ++ wordBytes (wordNumber w))
 
 abbrev pub ClaimSpelt : Type 0
 ClaimSpelt = (t : Token) (x : Exchange) → Spells (prescribed t x) (stepOf t x .bytes)

@@ -229,45 +229,6 @@ isLost (ChipPassed z) = false
 isLost Lost = true
 isLost Nothing = false
 
--- what ends a run or a session: a new choice, a reset, a loss
-abbrev pub ends : Fact → Bool
-ends (Taken c) = true
-ends (StepPassed s) = false
-ends (Accepted n p) = false
-ends (Announced k) = false
-ends Challenged = false
-ends Proved = false
-ends ProofFailed = false
-ends (ChipPassed z) = false
-ends Lost = true
-ends Nothing = false
-
--- what ends a chain's terminal and an announcement: these, and a certificate
-abbrev pub endsChain : Fact → Bool
-endsChain (Taken c) = true
-endsChain (StepPassed s) = false
-endsChain (Accepted n p) = true
-endsChain (Announced k) = false
-endsChain Challenged = false
-endsChain Proved = false
-endsChain ProofFailed = false
-endsChain (ChipPassed z) = false
-endsChain Lost = true
-endsChain Nothing = false
-
--- what ends a challenge and all that follows it: these, an announcement, a failed proof
-abbrev pub endsChallenge : Fact → Bool
-endsChallenge (Taken c) = true
-endsChallenge (StepPassed s) = false
-endsChallenge (Accepted n p) = true
-endsChallenge (Announced k) = true
-endsChallenge Challenged = false
-endsChallenge Proved = false
-endsChallenge ProofFailed = true
-endsChallenge (ChipPassed z) = false
-endsChallenge Lost = true
-endsChallenge Nothing = false
-
 -- ---- the trust points held, newest first: replayed from the personalisation through the accepted links of the whole record
 
 pub record TrustPoint : Type 0 where

@@ -1,4 +1,5 @@
--- The rule alone, on facts made by hand, newest first: also such as no token shows, so that each of its clauses is seen to decide.
+-- The rule alone, on facts made by hand, newest first: also such as no token shows. Each
+-- row that says no differs from the whole way in one place; those that say yes show what is allowed.
 -- Assumes nothing: these are definitions.
 use Prim.Native.Nat.{ℕ}
 use mathlib.Core.Bool.{Bool, true, false}
@@ -74,12 +75,12 @@ proof = Proved ∷ Challenged ∷ announced ∷ []
 abbrev pub chip : List Fact
 chip = ChipPassed (0x02 ∷ 0x03 ∷ []) ∷ []
 
-abbrev pub whole : List Fact
-whole = chip ++ proof ++ chained ++ pace ++ (Taken byPin ∷ [])
-
--- the whole way by a choice, with the rights of trust point, DV and terminal
+-- the whole way by a choice, with these rights of the DV and the terminal
 abbrev pub way : Choice → (dv terminal : ℕ) → List Fact
 way c d t = chip ++ proof ++ (Accepted (dv .name) (terminalWith t) ∷ Accepted (root .name) (dvWith d) ∷ []) ++ pace ++ (Taken c ∷ [])
+
+abbrev pub whole : List Fact
+whole = way byPin 0x800FFF0130 0x0000000110
 
 -- of a token that was personalised with the root alone, with these rights
 abbrev pub from : ℕ → List TrustPoint
@@ -114,16 +115,22 @@ JudgedA =
     × Judged (chip ++ proof ++ chained ++ (StepPassed Agree ∷ StepPassed Map ∷ StepPassed Nonce ∷ Taken byPin ∷ [])) false
     × Judged (chip ++ proof ++ chained ++ (StepPassed Nonce ∷ StepPassed Nonce ∷ StepPassed Nonce ∷ StepPassed Nonce ∷ Taken byPin ∷ [])) false
     × Judged (chip ++ proof ++ chained ++ (StepPassed Agree ∷ StepPassed Confirm ∷ StepPassed Map ∷ StepPassed Nonce ∷ Taken byPin ∷ [])) false
-    -- "since the last reset or lost session": 6987, 6988, a reset
+    -- a fifth step
+    × Judged (chip ++ proof ++ chained ++ (StepPassed Confirm ∷ pace) ++ (Taken byPin ∷ [])) false
+    -- "since the last reset or lost session": 6987, 6988, a reset, and one before the steps
     × Judged (factOf (Prescribed [] [] Unprotected) ∷ whole) false
     × Judged (factOf (Prescribed [] [] Broken) ∷ whole) false
     × Judged (factOf AtReset ∷ whole) false
+    × Judged (chip ++ proof ++ chained ++ pace ++ (factOf AtReset ∷ Taken byPin ∷ [])) false
 
 -- (b) "after it a DV, the latest, was accepted under a trust point, then a terminal under that DV, no certificate accepted later"
 abbrev pub JudgedB : Type 0
 JudgedB =
     -- the four steps after the chain
     Judged (chip ++ proof ++ pace ++ chained ++ (Taken byPin ∷ [])) false
+    -- a chain, and a DV, from before a choice that ran its own four steps
+    × Judged (chip ++ proof ++ pace ++ (Taken byPin ∷ []) ++ chained ++ pace ++ (Taken byPin ∷ [])) false
+    × Judged (chip ++ proof ++ (Accepted (dv .name) terminal ∷ []) ++ pace ++ (Taken byPin ∷ []) ++ (Accepted (root .name) dv ∷ []) ++ pace ++ (Taken byPin ∷ [])) false
     -- no DV; no terminal
     × Judged (chip ++ proof ++ (Accepted (dv .name) terminal ∷ []) ++ pace ++ (Taken byPin ∷ [])) false
     × Judged (chip ++ proof ++ (Accepted (root .name) dv ∷ []) ++ pace ++ (Taken byPin ∷ [])) false
@@ -131,6 +138,9 @@ JudgedB =
     × Judged (chip ++ proof ++ (Accepted (dv .name) terminal ∷ Accepted (link .name) dv ∷ []) ++ pace ++ (Taken byPin ∷ [])) false
     × Judged (chip ++ proof ++ (Accepted (otherDv .name) terminal ∷ Accepted (root .name) dv ∷ []) ++ pace ++ (Taken byPin ∷ [])) false
     × Judged (chip ++ proof ++ (Accepted (dv .name) terminal ∷ Accepted (root .name) otherDv ∷ Accepted (root .name) dv ∷ []) ++ pace ++ (Taken byPin ∷ [])) false
+    -- a DV in the terminal's place, a link in the DV's
+    × Judged (chip ++ proof ++ (Accepted (dv .name) otherDv ∷ Accepted (root .name) dv ∷ []) ++ pace ++ (Taken byPin ∷ [])) false
+    × Judged (chip ++ proof ++ (Accepted (link .name) terminal ∷ Accepted (root .name) link ∷ []) ++ pace ++ (Taken byPin ∷ [])) false
     -- a link between; a link and a DV accepted later
     × Judged (chip ++ proof ++ (Accepted (dv .name) terminal ∷ Accepted (root .name) link ∷ Accepted (root .name) dv ∷ []) ++ pace ++ (Taken byPin ∷ [])) false
     × Judged (chip ++ proof ++ (Accepted (root .name) link ∷ []) ++ chained ++ pace ++ (Taken byPin ∷ [])) false
@@ -159,9 +169,10 @@ JudgedC =
 -- (d) "then a chip key passed with the announced key, nothing lost since"
 abbrev pub JudgedD : Type 0
 JudgedD =
-    -- none; one before the proof; a terminal proven again after it
+    -- none; one before the announcement, and before the proof; a terminal proven again after it
     Judged (proof ++ chained ++ pace ++ (Taken byPin ∷ [])) false
     × Judged (proof ++ chip ++ chained ++ pace ++ (Taken byPin ∷ [])) false
+    × Judged (Proved ∷ (chip ++ (Challenged ∷ announced ∷ []) ++ chained ++ pace ++ (Taken byPin ∷ []))) false
     × Judged (proof ++ whole) false
     -- another key, a shorter and a longer one
     × Judged (ChipPassed (0x02 ∷ 0x04 ∷ []) ∷ (proof ++ chained ++ pace ++ (Taken byPin ∷ []))) false

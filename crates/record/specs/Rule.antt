@@ -19,7 +19,7 @@ use Rattle.run.specs.declared.Password.{Password}
 use Rattle.run.specs.declared.Choice.{Choice}
 use Rattle.run.specs.declared.Step.the-variants.{Nonce, Map, Agree, Confirm}
 use Rattle.run.specs.Run.{passwordOf, rightsNamed, stepNumber, isCan}
-use Rattle.record.specs.Facts.{Fact, TrustPoint, Seen, choiceIn, stepIn, certified, keyIn, isChallenged, isProved, chipWith, isLost, ends, endsChain, endsChallenge, rightsOf}
+use Rattle.record.specs.Facts.{Fact, Taken, StepPassed, Accepted, Announced, Challenged, Proved, ProofFailed, ChipPassed, Lost, Nothing, TrustPoint, Seen, choiceIn, stepIn, certified, keyIn, isChallenged, isProved, chipWith, isLost, rightsOf}
 
 -- ---- "the last ..", "since .."
 
@@ -46,6 +46,19 @@ standing counts undoes (x ∷ past) = counts x past || (not (undoes (x .fact)) &
 
 abbrev pub lastChoice : List Seen → Option Choice
 lastChoice r = latest (λ x past. choiceIn (x .fact)) isLost r
+
+-- what ends a run or a session: a new choice, a reset, a loss
+abbrev pub ends : Fact → Bool
+ends (Taken c) = true
+ends (StepPassed s) = false
+ends (Accepted n p) = false
+ends (Announced k) = false
+ends Challenged = false
+ends Proved = false
+ends ProofFailed = false
+ends (ChipPassed z) = false
+ends Lost = true
+ends Nothing = false
 
 -- the steps passed since, newest first
 abbrev pub steps : List Seen → List ℕ
@@ -107,6 +120,19 @@ completing (some d) n p = cond (sameName n (d .name)) (chainRights (d .trusted) 
 abbrev pub under : Option Dv → Name → Certificate → Role → Option ChainRights
 under d n p role = cond (isTerminal role) (completing d n p) none
 
+-- "no certificate accepted later": what ends a chain's terminal and an announcement
+abbrev pub endsChain : Fact → Bool
+endsChain (Taken c) = true
+endsChain (StepPassed s) = false
+endsChain (Accepted n p) = true
+endsChain (Announced k) = false
+endsChain Challenged = false
+endsChain Proved = false
+endsChain ProofFailed = false
+endsChain (ChipPassed z) = false
+endsChain Lost = true
+endsChain Nothing = false
+
 abbrev pub chain : List Seen → Option ChainRights
 chain r = latest (λ x past. certified none (under (lastDv past)) (x .fact)) endsChain r
 
@@ -114,6 +140,19 @@ chain r = latest (λ x past. certified none (under (lastDv past)) (x .fact)) end
 
 abbrev pub announcedKey : List Seen → Option Key
 announcedKey r = latest (λ x past. keyIn (x .fact)) endsChain r
+
+-- "no announcement or failed proof after that challenge": what ends a challenge and all that follows it
+abbrev pub endsChallenge : Fact → Bool
+endsChallenge (Taken c) = true
+endsChallenge (StepPassed s) = false
+endsChallenge (Accepted n p) = true
+endsChallenge (Announced k) = true
+endsChallenge Challenged = false
+endsChallenge Proved = false
+endsChallenge ProofFailed = true
+endsChallenge (ChipPassed z) = false
+endsChallenge Lost = true
+endsChallenge Nothing = false
 
 abbrev pub challenged : List Seen → Bool
 challenged r = standing (λ x past. isChallenged (x .fact) && given (announcedKey past)) endsChallenge r
@@ -139,7 +178,7 @@ bitsAgree none t n = false
 bitsAgree (some c) none n = false
 bitsAgree (some c) (some t) n = agrees (c .0) (c .1) t (7 + n)
 
--- ---- "Group n is readable when":
+-- ---- "Group n is readable when": a line for each of (a) to (e), as the paper has them, though the later ones imply the earlier
 
 unfoldable pub readable : List Seen → ℕ → Bool
 readable r n =

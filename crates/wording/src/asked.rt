@@ -1,6 +1,6 @@
 // The words of a line that asks what a token wants or which group it would let be read, and those of its answer.
 use super::labels::label;
-use super::send::note_of;
+use super::send::note_named;
 use super::stated::number;
 use super::stated::string;
 use digits::number::Radix;
@@ -25,7 +25,7 @@ pub struct Group {
 }
 
 pub fn read_question(line: &[u8], command: &mut [u8]) -> Question {
-    let x = note_of(word(line, 1));
+    let x = note_named(word(line, 1));
     let a = string(word(line, 2), &mut *command);
     let note = x.note;
     Question {

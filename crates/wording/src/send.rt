@@ -45,7 +45,7 @@ pub struct Sent {
     pub second: usize,
 }
 
-pub(crate) fn note_of(w: &[u8]) -> Noted {
+pub(crate) fn note_named(w: &[u8]) -> Noted {
     if same(w, b"plain") {
         return Noted {
             good: true,
@@ -65,7 +65,7 @@ pub(crate) fn note_of(w: &[u8]) -> Noted {
 }
 
 // The verdict that words 3 and 4 state.
-fn verdict_of(line: &[u8], n: usize) -> Judged {
+fn verdict_named(line: &[u8], n: usize) -> Judged {
     let w = word(line, 3);
     let key = number(word(line, 4), Radix::Ten);
     let keyed = key.good | (n < 4);
@@ -127,8 +127,8 @@ impl Named {
 
 pub fn read_sent(line: &[u8], command: &mut [u8], first: &mut [u8], second: &mut [u8]) -> Sent {
     let n = count(line, b' ');
-    let note = note_of(word(line, 1));
-    let verdict = verdict_of(line, n);
+    let note = note_named(word(line, 1));
+    let verdict = verdict_named(line, n);
     let job = job_at(line, n);
     let a = string(word(line, 2), &mut *command);
     let b = string_if(line, n, 5, &mut *first);
