@@ -7,7 +7,7 @@ use Rattle.status.specs.Words.{wordNumber}
 use Rattle.status.specs.declared.Word.{Word}
 use Rattle.event.specs.declared.Event.{Event}
 use Rattle.event.specs.Event.{wordOf}
-use Rattle.names.specs.declared.Held.{Held}
+use Rattle.names.specs.declared.Listed.{Listed}
 use Rattle.trust.specs.declared.Points.{Points}
 use Rattle.trust.specs.Trust.{namesOf}
 use Rattle.reply.specs.declared.Layout.{Layout}
@@ -19,8 +19,8 @@ pub layout-arm : (x d : Event) (r : Layout) → x ≡ d → r ≡ layoutOf d →
 layout-arm x d r e z = z ∙ ap layoutOf (sym e)
 
 -- what was written is the reply to the event
-pub answer-is : (h : Points) (e : Event) (first o₀ o₁ : List ℕ) (l : Layout) (w : Word) (k n : ℕ) (held : Held) → held ≡ namesOf h → l ≡ layoutOf e → w ≡ wordOf e → k ≡ wordNumber w
-    → Written (replyOf (length o₀) l k first held) o₀ o₁ n
+pub answer-is : (h : Points) (e : Event) (first o₀ o₁ : List ℕ) (l : Layout) (w : Word) (k n : ℕ) (listed : Listed) → listed ≡ namesOf h → l ≡ layoutOf e → w ≡ wordOf e → k ≡ wordNumber w
+    → Written (replyOf (length o₀) l k first listed) o₀ o₁ n
     → Written (replyTo h e first (length o₀)) o₀ o₁ n
 unfolding replyTo
-answer-is h e first o₀ o₁ l w k n held d f g i z = rw (← d, ← f, ← g, ← i) z
+answer-is h e first o₀ o₁ l w k n listed d f g i z = rw (← d, ← f, ← g, ← i) z

@@ -10,13 +10,13 @@ use Rattle.rights.specs.Rights.{rightsFit, roleOf, isRights, andOf, common, gro
 use Rattle.certificate.specs.Certificate.{noCertificate, certificateFits, expired, withKey}
 use Rattle.status.specs.Words.{wordNumber}
 use Rattle.bodies.specs.Body.{isPublicKey, isSignature, bodyThen, signedOf, versionThen, issuerThen, keyThen, ownThen, rightsThen, firstThen, lastThen, extThen}
-use Rattle.command.specs.Form.{formOf, afterHeader, afterFour, extendedOf, dataThen, afterShort, afterLong}
+use Rattle.form.specs.Form.{formOf, afterHeader, afterFour, extendedOf, dataThen, afterShort, afterLong}
 use Rattle.command.specs.Kind.{kindOf}
 use Rattle.command.specs.Shape.{shapeOf, headedOf}
 use Rattle.event.specs.Event.{wordOf}
 use Rattle.plans.specs.Plans.{settledBy, awaitsBy}
 use Rattle.verdicts.specs.Verdicts.{endsBy, passesBy, judgedOf, awaitedOf, endingOf}
-use Rattle.fields.specs.Taking.{reading, lastly, fitted, lastOf, holds}
+use Rattle.taking.specs.Taking.{reading, lastly, fitted, lastOf, holds}
 use Rattle.fields.specs.Given.{only, verifying}
 use Rattle.fields.specs.Choice.{choiceOf, protocolThen, passwordThen, chosenBy}
 use Rattle.fields.specs.Choice as choice

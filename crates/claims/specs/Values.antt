@@ -198,7 +198,7 @@ pub record Values : Type 0 where
   -- a day earlier: 6984, of both
   pub p9 : (certified 20260502 noChain Newest verifyDv .bytes ≡ 0x69 ∷ 0x84 ∷ []) × (certified 20260301 toDv Dv verifyTerminal .bytes ≡ 0x69 ∷ 0x84 ∷ [])
   -- a link accepted: UTCVCAAT00002 is the newest trust point then
-  pub p9-link : (certified 20300101 noChain Newest verifyLink .bytes ≡ 0x90 ∷ 0x00 ∷ []) × (namesOf (certified 20300101 noChain Newest verifyLink .token .points) .newest ≡ linkName)
+  pub p9-link : (certified 20300101 noChain Newest verifyLink .bytes ≡ 0x90 ∷ 0x00 ∷ []) × (namesOf (certified 20300101 noChain Newest verifyLink .token .points) .first ≡ linkName)
   -- length 81 7F refused, 81 80 read
   pub p10 : (headerOf (0x53 ∷ 0x81 ∷ 0x7F ∷ replicate 0x7F 0x00) ≡ NoHeader) × (headerOf (0x53 ∷ 0x81 ∷ 0x80 ∷ replicate 0x80 0x00) ≡ Header 0x53 false 3 0x83)
   -- proof passed, read before chip key: 6982; the same session authenticated reads

@@ -4,7 +4,7 @@ use mathlib.Core.Bool.{true, false}
 use mathlib.Core.Path.{_≡_, refl}
 use mathlib.Core.List.{List, [], _∷_}
 use lib.ListN.{replicate}
-use Rattle.command.specs.Form.{commandLimit, formOf, afterHeader, afterFour, extendedOf, dataThen, afterShort, afterLong}
+use Rattle.form.specs.Form.{commandLimit, formOf, afterHeader, afterFour, extendedOf, dataThen, afterShort, afterLong}
 use Rattle.command.specs.Kind.{kindOf}
 use Rattle.command.specs.Shape.{shapeOf, headedOf}
 use Rattle.command.specs.declared.kind.Kind.the-variants.{General, VerifyCertificate, Challenge, Read}

@@ -8,12 +8,12 @@ use borrow.Author.Tests.{ltb-false}
 use lib.Dec.{eqb, ltb}
 use lib.ListN.{getD}
 use Rattle.laws.proofs.Bools.{of-both}
-use Rattle.command.specs.Form.{formOf, pairOf}
+use Rattle.form.specs.Form.{formOf, pairOf}
 use Rattle.command.specs.Kind.{Row, row, commands, listed, readOf, kindOf, classFits, present, wantsOf}
 use Rattle.command.specs.Shape.{lookedUp, headedOf, formed, shapeOf}
-use Rattle.command.specs.declared.form.Le.{Le}
-use Rattle.command.specs.declared.form.Form.{Form}
-use Rattle.command.specs.declared.form.Form.the-variants.{Of, Wrong}
+use Rattle.form.specs.declared.Le.{Le}
+use Rattle.form.specs.declared.Form.{Form}
+use Rattle.form.specs.declared.Form.the-variants.{Of, Wrong}
 use Rattle.command.specs.declared.kind.Kind.{Kind}
 use Rattle.command.specs.declared.kind.Kind.the-variants.{ChoosePassword, General, SelectIssuer, VerifyCertificate, Announce, Challenge, ProveTerminal, ChooseChipKey, Read, ChangePin, Unblock, Activate, Deactivate}
 use Rattle.command.specs.declared.kind.Lookup.{Lookup}

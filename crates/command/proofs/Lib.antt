@@ -1,4 +1,3 @@
-pub mod Forms
 pub mod Rows
 pub mod Shapes
 pub mod Groups

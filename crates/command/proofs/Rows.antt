@@ -4,10 +4,10 @@ use mathlib.Core.Bool.{Bool, false, not, _&&_}
 use mathlib.Core.Path.{_≡_, sym, ap, _∙_}
 use lib.Dec.{eqb}
 use borrow.Author.Tests.{ne-eqb}
-use Rattle.command.specs.Form.{pairOf}
+use Rattle.form.specs.Form.{pairOf}
 use Rattle.command.specs.Kind.{kindOf, rowOf, readOf, wantsOf, present, leFits, leIs}
-use Rattle.command.specs.declared.form.Le.{Le}
-use Rattle.command.specs.declared.form.Le.the-variants.{Number}
+use Rattle.form.specs.declared.Le.{Le}
+use Rattle.form.specs.declared.Le.the-variants.{Number}
 use Rattle.command.specs.declared.kind.Kind.{Kind}
 use Rattle.command.specs.declared.kind.Lookup.{Lookup}
 use Rattle.command.specs.declared.kind.Lookup.the-variants.{NoIns}

@@ -7,14 +7,14 @@ use native.Mathlib.Omega.{arith}
 use lib.Dec.{eqb, ltb}
 use lib.ListN.{length, getD}
 use Rattle.laws.proofs.Bools.{of-both}
-use Rattle.command.specs.Form.{formOf}
+use Rattle.form.specs.Form.{formOf}
 use Rattle.command.specs.Kind.{classFits, kindOf, present, wantsOf}
 use Rattle.command.specs.Shape.{shapeOf, headedOf, lookedUp, formed}
-use Rattle.command.proofs.Forms.{FormIn, form-in, form-sizes}
+use Rattle.form.proofs.Forms.{FormIn, form-in, form-sizes}
 use Rattle.command.specs.declared.Fault.{Fault}
-use Rattle.command.specs.declared.form.Le.{Le}
-use Rattle.command.specs.declared.form.Form.{Form}
-use Rattle.command.specs.declared.form.Form.the-variants.{Of, Wrong}
+use Rattle.form.specs.declared.Le.{Le}
+use Rattle.form.specs.declared.Form.{Form}
+use Rattle.form.specs.declared.Form.the-variants.{Of, Wrong}
 use Rattle.command.specs.declared.kind.Kind.{Kind}
 use Rattle.command.specs.declared.kind.Lookup.{Lookup}
 use Rattle.command.specs.declared.kind.Lookup.the-variants.{For, NoIns, NoParams}

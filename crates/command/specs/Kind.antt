@@ -3,9 +3,9 @@ use Prim.Native.Nat.{ℕ, _-_}
 use mathlib.Core.Bool.{Bool, true, false, cond, not, _&&_, _||_}
 use mathlib.Core.List.{List, [], _∷_}
 use lib.Dec.{ltb, eqb}
-use Rattle.command.specs.Form.{pairOf}
-use Rattle.command.specs.declared.form.Le.{Le}
-use Rattle.command.specs.declared.form.Le.the-variants.{Absent, Number}
+use Rattle.form.specs.Form.{pairOf}
+use Rattle.form.specs.declared.Le.{Le}
+use Rattle.form.specs.declared.Le.the-variants.{Absent, Number}
 use Rattle.command.specs.declared.kind.Kind.{Kind}
 use Rattle.command.specs.declared.kind.Kind.the-variants.{ChoosePassword, General, SelectIssuer, VerifyCertificate, Announce, Challenge, ProveTerminal, ChooseChipKey, Read, ChangePin, Unblock, Activate, Deactivate}
 use Rattle.command.specs.declared.kind.Lookup.{Lookup}

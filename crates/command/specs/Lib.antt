@@ -1,3 +1,2 @@
-pub mod Form
 pub mod Kind
 pub mod Shape

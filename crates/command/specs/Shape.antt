@@ -4,15 +4,15 @@ use mathlib.Core.Bool.{cond, not}
 use mathlib.Core.List.{List}
 use lib.Dec.{eqb, ltb}
 use lib.ListN.{getD}
-use Rattle.command.specs.declared.form.Le.{Le}
-use Rattle.command.specs.declared.form.Form.{Form}
-use Rattle.command.specs.declared.form.Form.the-variants.{Of, Wrong}
+use Rattle.form.specs.declared.Le.{Le}
+use Rattle.form.specs.declared.Form.{Form}
+use Rattle.form.specs.declared.Form.the-variants.{Of, Wrong}
 use Rattle.command.specs.declared.kind.Lookup.{Lookup}
 use Rattle.command.specs.declared.kind.Lookup.the-variants.{For, NoIns, NoParams}
 use Rattle.command.specs.declared.Fault.the-variants.{Form as FormFault, Class, Instruction, Parameters, Presence}
 use Rattle.command.specs.declared.Shape.{Shape}
 use Rattle.command.specs.declared.Shape.the-variants.{Command, Faulty}
-use Rattle.command.specs.Form.{formOf}
+use Rattle.form.specs.Form.{formOf}
 use Rattle.command.specs.Kind.{classFits, kindOf, present, wantsOf}
 
 -- INS; P1-P2; presence of data (from a up to e) and Le

@@ -3,8 +3,7 @@ ghost use mathlib.Core.Path.{_≡_};
 ghost use mathlib.Core.Bool.{cond};
 ghost use lib.Dec.{eqb};
 ghost use Rattle.command.specs.Kind.{classFits, rowOf, kindOf, readOf, wantsOf, present, leFits, leIs, leThere};
-use super::form;
-use super::form::Le;
+use form::Le;
 
 // General is General Authenticate: a run step or the chip key. Read has its group, 1..21.
 pub enum Kind {

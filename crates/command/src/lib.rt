@@ -6,7 +6,6 @@ use form::Le;
 use kind::Kind;
 use kind::Lookup;
 
-pub mod form;
 pub mod kind;
 
 // What is wrong with a command before the token is looked at, in the order of the checks.

@@ -9,14 +9,14 @@ use Rattle.objects.specs.Chain.{taken}
 use Rattle.names.specs.Names.{isName, nameOf}
 use Rattle.keys.specs.Keys.{isKey, keyOf}
 use Rattle.rights.specs.Rights.{isRights, granted}
-use Rattle.command.specs.Form.{formOf, afterHeader, afterFour, dataThen, afterShort}
+use Rattle.form.specs.Form.{formOf, afterHeader, afterFour, dataThen, afterShort}
 use Rattle.command.specs.Kind.{kindOf}
 use Rattle.command.specs.Shape.{shapeOf, headedOf}
 use Rattle.command.specs.declared.kind.Kind.the-variants.{SelectIssuer, ChangePin as KindPin}
 use Rattle.event.specs.declared.Refusal.the-variants.{Instruction}
 use Rattle.run.specs.declared.Choice.the-variants.{Can, PinFor}
 use Rattle.run.specs.declared.Step.the-variants.{Nonce}
-use Rattle.fields.specs.Taking.{reading, lastly, fitted, lastOf, holds}
+use Rattle.taking.specs.Taking.{reading, lastly, fitted, lastOf, holds}
 use Rattle.fields.specs.Given.{bad, selecting, announcing}
 use Rattle.fields.specs.Choice.{choiceOf, protocolThen, passwordThen, rightsThen, chosenBy}
 use Rattle.fields.specs.Held.{generalOf, heldIn}

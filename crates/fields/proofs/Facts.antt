@@ -37,7 +37,7 @@ use Rattle.command.specs.declared.kind.Kind.the-variants.{ChoosePassword, Gener
 use Rattle.command.specs.declared.Shape.{Shape}
 use Rattle.command.specs.declared.Shape.the-variants.{Command, Faulty}
 use Rattle.command.proofs.Groups.{GroupIn, ShapeIn, shape-in}
-use Rattle.fields.specs.Taking.{reading, lastly, isAll, sized, holds}
+use Rattle.taking.specs.Taking.{reading, lastly, isAll, sized, holds}
 use Rattle.fields.specs.Given.{only, bad, selecting, verifying, announcing}
 use Rattle.fields.specs.Choice.{pace, chosen, chosenBy, rightsThen, passwordThen, protocolThen, choiceOf}
 use Rattle.fields.specs.Held.{heldIn, generalOf}

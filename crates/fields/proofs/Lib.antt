@@ -1,4 +1,3 @@
-pub mod Links
 pub mod Ways
 pub mod Facts
 pub mod Examples

@@ -13,7 +13,7 @@ use Rattle.names.specs.Names.{isName, nameOf}
 use Rattle.keys.specs.Keys.{isKey, keyOf}
 use Rattle.bodies.specs.Body.{taMechanism}
 use Rattle.names.specs.declared.Name.{Name}
-use Rattle.fields.specs.Taking.{reading, lastly, isAll}
+use Rattle.taking.specs.Taking.{reading, lastly, isAll}
 use Rattle.fields.specs.Given.{bad, announcing}
 use Rattle.fields.specs.declared.given.Given.{Given}
 

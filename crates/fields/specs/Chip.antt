@@ -5,7 +5,7 @@ use mathlib.Core.Bool.{false, cond}
 use lib.ListN.{length}
 use lib.Dec.{eqb}
 use Rattle.objects.specs.Chain.{taken}
-use Rattle.fields.specs.Taking.{reading, isAll, holds}
+use Rattle.taking.specs.Taking.{reading, isAll, holds}
 use Rattle.fields.specs.declared.asked.Ask.{Ask}
 use Rattle.fields.specs.declared.asked.Ask.the-variants.{Bad, ChooseChipKey}
 

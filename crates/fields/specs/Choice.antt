@@ -12,7 +12,7 @@ use Rattle.rights.specs.declared.Rights.{Rights}
 use Rattle.rights.specs.declared.Granted.{Granted}
 use Rattle.rights.specs.declared.Granted.the-variants.{These, NoRights}
 use Rattle.run.specs.declared.Choice.the-variants.{Mrz, Can, CanFor, Pin, PinFor, Puk}
-use Rattle.fields.specs.Taking.{reading, lastly, isAll, sized}
+use Rattle.taking.specs.Taking.{reading, lastly, isAll, sized}
 use Rattle.fields.specs.declared.asked.Ask.{Ask}
 use Rattle.fields.specs.declared.asked.Ask.the-variants.{Bad, Choose}
 

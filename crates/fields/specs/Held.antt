@@ -7,7 +7,7 @@ use lib.ListN.{length}
 use lib.Dec.{eqb}
 use Rattle.strings.specs.Bytes.{longest}
 use Rattle.run.specs.declared.Step.the-variants.{Nonce, Map, Agree, Confirm}
-use Rattle.fields.specs.Taking.{reading, lastly, holds}
+use Rattle.taking.specs.Taking.{reading, lastly, holds}
 use Rattle.objects.specs.Chain.{any}
 use Rattle.fields.specs.declared.asked.Content.the-variants.{Step, Chip}
 use Rattle.fields.specs.declared.asked.Ask.{Ask}

@@ -7,7 +7,7 @@ use Rattle.bodies.specs.Body.{signedOf}
 use Rattle.bodies.specs.declared.Body.{Body}
 use Rattle.status.specs.declared.Intake.{Intake}
 use Rattle.status.specs.declared.Intake.the-variants.{Accepted, Unfit}
-use Rattle.fields.specs.Taking.{reading, lastly}
+use Rattle.taking.specs.Taking.{reading, lastly}
 use Rattle.fields.specs.Given.{bad, selecting, verifying}
 use Rattle.fields.specs.declared.given.Given.{Given}
 

@@ -1,4 +1,3 @@
-pub mod Taking
 pub mod Given
 pub mod Choice
 pub mod Held

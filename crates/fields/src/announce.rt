@@ -4,20 +4,20 @@ ghost use mathlib.Core.Bool.{false};
 ghost use Rattle.objects.specs.Objects.{objectsAt};
 ghost use Rattle.objects.specs.Chain.{counted};
 ghost use Rattle.keys.specs.Keys.{isKey};
-ghost use Rattle.fields.specs.Taking.{fitted};
+ghost use Rattle.taking.specs.Taking.{fitted};
 ghost use Rattle.fields.specs.Given.{bad};
 ghost use Rattle.fields.specs.Announce.{announceOf, terminalThen, auxiliaryThen, keyThen};
 use super::asked::Ask;
 use super::given::Given;
-use super::taking::identified;
-use super::taking::last;
-use super::taking::named;
-use super::taking::sized;
 use bodies::MECHANISM;
 use keys::Key;
 use names::Name;
 use objects::Count;
 use objects::Found;
+use taking::identified;
+use taking::last;
+use taking::named;
+use taking::sized;
 
 // 91 with a key.
 fn keyed(s: &[u8]) -> Found

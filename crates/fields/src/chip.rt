@@ -2,9 +2,9 @@
 ghost use mathlib.Core.Path.{_≡_};
 ghost use Rattle.fields.specs.Chip.{chipOf, referenceIn};
 use super::asked::Ask;
-use super::taking::holds;
-use super::taking::identified;
 use objects::Found;
+use taking::holds;
+use taking::identified;
 
 const CHIP: [u8; 10] = [4, 0, 0x7F, 0, 7, 2, 2, 3, 2, 2];
 

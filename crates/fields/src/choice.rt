@@ -4,14 +4,14 @@ ghost use Rattle.objects.specs.Objects.{objectsAt};
 ghost use Rattle.objects.specs.Chain.{counted};
 ghost use Rattle.fields.specs.Choice.{choiceOf, passwordThen, rightsThen, chosen, chosenFor, chosenBy};
 use super::asked::Ask;
-use super::taking::identified;
-use super::taking::last;
-use super::taking::sized;
 use objects::Found;
 use rights::Granted;
 use rights::Rights;
 use rights::rights_of;
 use run::Choice;
+use taking::identified;
+use taking::last;
+use taking::sized;
 
 const PACE: [u8; 10] = [4, 0, 0x7F, 0, 7, 2, 2, 4, 2, 2];
 

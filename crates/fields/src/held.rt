@@ -3,11 +3,11 @@ ghost use mathlib.Core.Path.{_≡_};
 ghost use Rattle.fields.specs.Held.{generalOf, heldIn};
 use super::asked::Ask;
 use super::asked::Content;
-use super::taking::holds;
-use super::taking::last;
 use objects::Found;
 use run::Step;
 use strings::STRING;
+use taking::holds;
+use taking::last;
 
 // The bytes of a token that confirms.
 const TOKEN: usize = 8;

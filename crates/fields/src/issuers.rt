@@ -3,11 +3,11 @@ ghost use mathlib.Core.Path.{_≡_};
 ghost use Rattle.fields.specs.Issuers.{selectOf, verifyOf};
 use super::asked::Ask;
 use super::given::Given;
-use super::taking::last;
-use super::taking::named;
 use names::Name;
 use objects::Found;
 use status::Intake;
+use taking::last;
+use taking::named;
 
 // 83 with a name.
 pub(crate) fn select(s: &[u8]) -> Given

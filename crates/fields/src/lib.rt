@@ -19,7 +19,6 @@ mod given;
 mod held;
 mod issuers;
 mod plain;
-mod taking;
 
 // The refusal of a faulty shape.
 fn fault(f: Fault) -> Refusal

@@ -13,12 +13,11 @@ pub struct Name {
     pub len: usize,
 }
 
-// The names of the trust points held, as a reply shows them: the newest, and the previous where there are two. Here, since the reply
-// knows no trust points.
-pub struct Held {
-    pub newest: Name,
-    pub previous: Name,
-    pub two: bool,
+// The names that a reply shows: the first, and the second where there are both. Whose they are, `trust` says.
+pub struct Listed {
+    pub first: Name,
+    pub second: Name,
+    pub both: bool,
 }
 
 // Whether a string is a name.

@@ -4,7 +4,6 @@ pub mod Buffers
 pub mod Certificate
 pub mod Checks
 pub mod Command
-pub mod DeskToken
 pub mod Event
 pub mod Fields
 pub mod Headers
@@ -16,6 +15,7 @@ pub mod Run
 pub mod Session
 pub mod Standing
 pub mod Strings
+pub mod Taking
 pub mod Text
 pub mod Token
 pub mod Trust

@@ -2,7 +2,7 @@
 use mathlib.Core.Bool.{Bool}
 use Rattle.laws.proofs.Pinned.{Pinned, pinned}
 use Rattle.names.specs.declared.Name.{Name}
-use Rattle.names.specs.declared.Held.{Held}
+use Rattle.names.specs.declared.Listed.{Listed}
 use Rattle.certificate.specs.declared.Certificate.{Certificate}
 use Rattle.event.specs.declared.Issuer.{Issuer}
 use Rattle.trust.specs.Trust.{onePoint, twoPoints, pointsFit, knows, found, issuerOf, holds, namesOf, linked}
@@ -33,5 +33,5 @@ linked-pinned h link = pinned _
 pub holds-pinned : (h : Points) (i : Issuer) (stands : Bool) → Pinned Bool (holds h i stands)
 holds-pinned h i stands = pinned _
 
-pub names-pinned : (h : Points) → Pinned Held (namesOf h)
+pub names-pinned : (h : Points) → Pinned Listed (namesOf h)
 names-pinned h = pinned _

@@ -5,7 +5,6 @@ use mathlib.Core.Bool.{Bool, true, false, cond, _||_}
 use mathlib.Core.Path.{_≡_, refl, sym, ap, subst, _∙_}
 use mathlib.Core.Option.{Option, none, some}
 use mathlib.Core.List.{List, [], _∷_}
-use Rattle.strings.specs.Bytes.{eqbs}
 use Rattle.laws.proofs.Bools.{true-false, and-l, or-then}
 use Rattle.names.specs.Names.{sameName}
 use Rattle.rights.specs.Rights.{roleOf}
@@ -26,7 +25,7 @@ use Rattle.run.specs.declared.Password.{Password}
 use Rattle.run.specs.declared.Choice.{Choice}
 use Rattle.run.specs.declared.Step.{Step}
 use Rattle.run.specs.declared.Step.the-variants.{Nonce, Map, Agree, Confirm}
-use Rattle.run.specs.Run.{passwordOf, rightsNamed, stepNumber, isLast, nextStep}
+use Rattle.run.specs.Run.{passwordOf, rightsNamed, isLast, nextStep}
 use Rattle.event.specs.declared.Event.{Event}
 use Rattle.trust.specs.Trust.{pointsFit, pointsHeld, linked}
 use Rattle.trust.proofs.Laws.{Holds, firstNamed, by-name}
@@ -48,8 +47,8 @@ use Rattle.token.specs.State.{resetOf, startOf, contextOf}
 use Rattle.token.specs.After.{choiceTaken, staged, stepPassed, opened, runClosed, trialLost, issuerSelected, linkTaken, dvTaken, extended, terminalTaken, announced, unblocked, unblockedByPuk, afterOf}
 use Rattle.reached.proofs.Fits.{InLimits, Fits, is-refused, is-lost, is-chosen, is-stepped, is-opened, is-run-closed, is-trial-lost, is-selected, is-link-taken, is-dv-taken, is-terminal-taken, is-announced, is-challenged, is-proven, is-proof-lost, is-chip-key-chosen, is-authenticated, is-chip-lost, not-passed, is-read, is-changed, is-unblocked-puk, is-unblocked, is-activated, is-deactivated}
 use Rattle.reached.proofs.Within.{context-of}
-use Rattle.record.specs.Facts.{Fact, Taken, StepPassed, Accepted, Announced, Challenged, Proved, ProofFailed, ChipPassed, Lost, Nothing, TrustPoint, Seen, isKey, linkedBy, heldAfter, rightsOf}
-use Rattle.record.specs.Rule.{given, orElse, lastChoice, steps, fourSteps, naming, named, confirmed, Dv, ChainRights, dvBy, lastDv, under, chain, announcedKey, challenged, proven, authenticated}
+use Rattle.rule.specs.Facts.{Fact, Taken, StepPassed, Accepted, Announced, Challenged, Proved, ProofFailed, ChipPassed, Lost, Nothing, TrustPoint, Seen, isKey, linkedBy, heldAfter, rightsOf}
+use Rattle.rule.specs.Rule.{given, orElse, lastChoice, steps, fourSteps, naming, named, confirmed, Dv, ChainRights, dvBy, lastDv, under, chain, announcedKey, challenged, proven, authenticated}
 use Rattle.record.specs.Claim.{asTrustPoints, trustPoints}
 use Rattle.record.proofs.Words.{factAt}
 
@@ -75,14 +74,14 @@ abbrev pub announcedBy : Stage → Key → Option Key
 announcedBy s k = cond (fromAnnounced s) (some k) none
 
 -- the steps passed before this one, newest first
-abbrev pub turns : Step → List ℕ
+abbrev pub turns : Step → List Step
 turns Nonce = []
-turns Map = stepNumber Nonce ∷ []
-turns Agree = stepNumber Map ∷ stepNumber Nonce ∷ []
-turns Confirm = stepNumber Agree ∷ stepNumber Map ∷ stepNumber Nonce ∷ []
+turns Map = Nonce ∷ []
+turns Agree = Map ∷ Nonce ∷ []
+turns Confirm = Agree ∷ Map ∷ Nonce ∷ []
 
 -- in a run the choice is the record's last, and its steps are those passed so far
-abbrev pub Running : Stage → Option Choice → List ℕ → Option ChainRights → Type 0
+abbrev pub Running : Stage → Option Choice → List Step → Option ChainRights → Type 0
 Running Idle c l b = Unit {0}
 Running (Run c s) o l b = (o ≡ some c) × (l ≡ turns s) × (b ≡ none)
 Running AtAnnounced c l b = Unit {0}
@@ -133,13 +132,13 @@ confirms t l h =
     (opener-open (c .opened) (or-then (hasRights (c .confirmed)) (openedByPin (c .opened) || openedByCan (c .opened)) (context-of c (t .pin) (l .context) .opener) h)) h
 
 -- fewer than four steps
-few : (x : Option (Password × Rights)) (s : Step) {l : List ℕ} → l ≡ turns s → cond (eqbs l fourSteps) x none ≡ none
-few x Nonce e = ap (λ (k : List ℕ). cond (eqbs k fourSteps) x none) e
-few x Map e = ap (λ (k : List ℕ). cond (eqbs k fourSteps) x none) e
-few x Agree e = ap (λ (k : List ℕ). cond (eqbs k fourSteps) x none) e
-few x Confirm e = ap (λ (k : List ℕ). cond (eqbs k fourSteps) x none) e
+few : (x : Option (Password × Rights)) (s : Step) {l : List Step} → l ≡ turns s → cond (fourSteps l) x none ≡ none
+few x Nonce e = ap (λ (k : List Step). cond (fourSteps k) x none) e
+few x Map e = ap (λ (k : List Step). cond (fourSteps k) x none) e
+few x Agree e = ap (λ (k : List Step). cond (fourSteps k) x none) e
+few x Confirm e = ap (λ (k : List Step). cond (fourSteps k) x none) e
 
-next : (s : Step) → isLast s ≡ false → stepNumber s ∷ turns s ≡ turns (nextStep s)
+next : (s : Step) → isLast s ≡ false → s ∷ turns s ≡ turns (nextStep s)
 next Nonce e = refl
 next Map e = refl
 next Agree e = refl
@@ -176,7 +175,7 @@ module _ {now : List TrustPoint} {ps : Points} {r : List Seen} where
     -- another step is passed, and not the last
     stepped : (s : Step) → isLast s ≡ false → Inv now ps (at c (Run d s)) r → Inv now ps (at c (Run d (nextStep s))) (more now (StepPassed s) r)
     stepped s e i =
-        let n : stepNumber s ∷ steps r ≡ turns (nextStep s) = ap (λ (l : List ℕ). stepNumber s ∷ l) (i .run .1) ∙ next s e in
+        let n : s ∷ steps r ≡ turns (nextStep s) = ap (λ (l : List Step). s ∷ l) (i .run .1) ∙ next s e in
         record {
           points = i .points;
           rights = i .rights ∙ few (named (lastChoice r)) s (i .run .1) ∙ sym (few (named (lastChoice r)) (nextStep s) n);
@@ -197,7 +196,7 @@ module _ {now : List TrustPoint} {ps : Points} {r : List Seen} where
     open-now Confirm e i =
         record {
           points = i .points;
-          rights = sym (ap (λ (l : List ℕ). cond (eqbs (stepNumber Confirm ∷ l) fourSteps) (named (lastChoice r)) none) (i .run .1) ∙ ap named (i .run .0));
+          rights = sym (ap (λ (l : List Step). cond (fourSteps (Confirm ∷ l)) (named (lastChoice r)) none) (i .run .1) ∙ ap named (i .run .0));
           dv = tt;
           terminal = sym (i .run .2);
           key = i .key;

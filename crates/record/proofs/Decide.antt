@@ -20,7 +20,7 @@ use Rattle.status.specs.declared.Word.the-variants.{Done, Outside as W6F00}
 use Rattle.command.specs.declared.kind.Kind.the-variants.{Read as KindRead}
 use Rattle.command.specs.declared.Shape.{Shape}
 use Rattle.command.specs.declared.Shape.the-variants.{Command}
-use Rattle.command.specs.Form.{formOf, afterHeader, afterFour, extendedOf}
+use Rattle.form.specs.Form.{formOf, afterHeader, afterFour, extendedOf}
 use Rattle.command.specs.Kind.{kindOf}
 use Rattle.command.specs.Shape.{shapeOf, headedOf}
 use Rattle.command.specs.declared.kind.Lookup.the-variants.{For}
@@ -75,9 +75,9 @@ use Rattle.token.specs.Plan.{commandOf, timedOf, requestedOf, guarded, planOf}
 use Rattle.token.specs.Step.{Exchange, Stepped, happenedOf, nextOf, endedBy, stepOf}
 use Rattle.reached.proofs.Fits.{InLimits, in-limits, fits}
 use Rattle.reached.proofs.Within.{InContext, context-of, reset-in, step-in, made-in}
-use Rattle.record.specs.Entries.{Entry, Reset, Sent, after, reached, Shown, shownAt, shown}
-use Rattle.record.specs.Facts.{Fact, TrustPoint, Seen, factBy, factOf, factsOf, requestFact, heldAfter, held, seen}
-use Rattle.record.specs.Rule.{given, ChainRights, confirmed, chain, proven, authenticated, bitsAgree, readable}
+use Rattle.record.specs.Entries.{Entry, Reset, Sent, after, reached, shownAt, shown}
+use Rattle.rule.specs.Facts.{Shown, Fact, TrustPoint, Seen, factBy, factOf, factsOf, requestFact, heldAfter, held, seen}
+use Rattle.rule.specs.Rule.{given, ChainRights, confirmed, chain, proven, authenticated, bitsAgree, readable}
 use Rattle.record.specs.Claim.{begun, trustPoints, ReadOf, short, extended, ReadsNow, recordSays, Exactly, Claim, ClaimBytes, ClaimWithin}
 use Rattle.record.proofs.Words.{fact-of}
 use Rattle.record.proofs.Agree.{confirmedBy, chainRightsOf, opener-open, more, Agrees, quiet, keep, reset-keeps, start-agrees}

@@ -20,8 +20,8 @@ use Rattle.token.specs.State.{madeOf, resetOf}
 use Rattle.token.specs.Limits.{inLimits}
 use Rattle.token.specs.Step.{Exchange, Steps, stepOf}
 use Rattle.record.specs.Entries.{Entry, Reset, Sent, prescribed, reached, shown}
-use Rattle.record.specs.Facts.{TrustPoint, trustPoint, factsOf, seen}
-use Rattle.record.specs.Rule.{readable}
+use Rattle.rule.specs.Facts.{TrustPoint, trustPoint, factsOf, seen}
+use Rattle.rule.specs.Rule.{readable}
 
 -- a token as it was personalised
 abbrev pub begun : Points → Day → Token

@@ -6,6 +6,7 @@ use Rattle.status.specs.declared.Word.{Word}
 use Rattle.token.specs.declared.state.Token.{Token}
 use Rattle.token.specs.State.{resetOf}
 use Rattle.token.specs.Step.{Exchange, stepOf}
+use Rattle.rule.specs.Facts.{Shown, AtReset, Prescribed}
 
 pub data Entry : Type 0 where
   Reset : Entry
@@ -25,11 +26,7 @@ abbrev pub reached : Token → List Entry → Token
 reached t [] = t
 reached t (x ∷ rest) = reached (after t x) rest
 
--- what the rule is shown of an entry: a reset; or a command's bytes, the second string of its crypto result, and the prescribed word
-pub data Shown : Type 0 where
-  AtReset : Shown
-  Prescribed : (command second : List ℕ) → Word → Shown
-
+-- what the rule is shown of an entry
 abbrev pub shownAt : Token → Entry → Shown
 shownAt t Reset = AtReset
 shownAt t (Sent x) = Prescribed (x .command) (x .second) (prescribed t x)

@@ -11,14 +11,14 @@ use Rattle.laws.proofs.Lists.{clip-long, take-clip, drop-min, from}
 use Rattle.strings.specs.Bytes.{longest}
 use Rattle.names.specs.Names.{places, nameBytes}
 use Rattle.names.specs.declared.Name.{Name}
-use Rattle.names.specs.declared.Held.{Held}
+use Rattle.names.specs.declared.Listed.{Listed}
 use Rattle.buffers.specs.Lay.{over, Put, Written}
 use Rattle.buffers.specs.Room.{fitting}
 use Rattle.buffers.proofs.Laying.{over-first, over-none, over-length}
 use Rattle.headers.specs.Encode.{header, object, sizeOf, objectOf}
 use Rattle.headers.proofs.Pieces.{renamed, whole, joined, both-fit, object-size, object-is, size-most}
 use Rattle.reply.specs.Bytes.{wordBytes}
-use Rattle.reply.specs.Reply.{room, nonce, pointNames, nonceToken}
+use Rattle.reply.specs.Reply.{room, nonce, listedNames, nonceToken}
 
 -- from the buffer's start
 pub started : (r : ℕ) (s o₀ o₁ : List ℕ) → Put 0 s o₀ o₁ r → Written s o₀ o₁ r
@@ -47,25 +47,25 @@ name-most len m r tag h f = omega (arith, size-most tag m)
 
 -- ---- the names: one alone, or two
 
-module _ (at k : ℕ) (held : Held) (o₀ o₁ : List ℕ) (l : at + length (pointNames held) ≤ length o₀) (e : k ≡ at + length (fitting at (object 0x87 (nameBytes (held .newest))) o₀))
-    (f : o₁ ≡ over at (fitting at (object 0x87 (nameBytes (held .newest))) o₀) o₀) where
-  pub one-name : held .two ≡ false → Put at (pointNames held) o₀ o₁ k
+module _ (at k : ℕ) (listed : Listed) (o₀ o₁ : List ℕ) (l : at + length (listedNames listed) ≤ length o₀) (e : k ≡ at + length (fitting at (object 0x87 (nameBytes (listed .first))) o₀))
+    (f : o₁ ≡ over at (fitting at (object 0x87 (nameBytes (listed .first))) o₀) o₀) where
+  pub one-name : listed .both ≡ false → Put at (listedNames listed) o₀ o₁ k
   one-name t =
       let m = rw t at l in
-      let n = length-append (object 0x87 (nameBytes (held .newest))) [] in
-      let p = whole at k (object 0x87 (nameBytes (held .newest))) o₀ o₁ (omega arith) e f in
-      rw t (joined at k k (object 0x87 (nameBytes (held .newest))) [] o₀ o₁ o₁ (p .0) (p .1) (omega arith) (over-none k o₁) (omega (arith, p .0)))
+      let n = length-append (object 0x87 (nameBytes (listed .first))) [] in
+      let p = whole at k (object 0x87 (nameBytes (listed .first))) o₀ o₁ (omega arith) e f in
+      rw t (joined at k k (object 0x87 (nameBytes (listed .first))) [] o₀ o₁ o₁ (p .0) (p .1) (omega arith) (over-none k o₁) (omega (arith, p .0)))
 
-  pub two-names : (r : ℕ) (o₂ : List ℕ) → held .two ≡ true → r ≡ k + length (fitting k (object 0x88 (nameBytes (held .previous))) o₁) → o₂ ≡ over k (fitting k (object 0x88 (nameBytes (held .previous))) o₁) o₁
-      → Put at (pointNames held) o₀ o₂ r
-  two-names r o₂ t g h = rw t (both-fit at k r (object 0x87 (nameBytes (held .newest))) (object 0x88 (nameBytes (held .previous))) o₀ o₁ o₂ (rw t at l) e f g h)
+  pub two-names : (r : ℕ) (o₂ : List ℕ) → listed .both ≡ true → r ≡ k + length (fitting k (object 0x88 (nameBytes (listed .second))) o₁) → o₂ ≡ over k (fitting k (object 0x88 (nameBytes (listed .second))) o₁) o₁
+      → Put at (listedNames listed) o₀ o₂ r
+  two-names r o₂ t g h = rw t (both-fit at k r (object 0x87 (nameBytes (listed .first))) (object 0x88 (nameBytes (listed .second))) o₀ o₁ o₂ (rw t at l) e f g h)
 
-module _ (held : Held) (m : ℕ) (e : m ≡ length (object 0x87 (nameBytes (held .newest)))) where
-  pub one-size : held .two ≡ false → m ≡ length (pointNames held)
-  one-size t = let n = length-append (object 0x87 (nameBytes (held .newest))) [] in rw t (omega arith)
+module _ (listed : Listed) (m : ℕ) (e : m ≡ length (object 0x87 (nameBytes (listed .first)))) where
+  pub one-size : listed .both ≡ false → m ≡ length (listedNames listed)
+  one-size t = let n = length-append (object 0x87 (nameBytes (listed .first))) [] in rw t (omega arith)
 
-  pub two-size : (n : ℕ) → n ≡ length (object 0x88 (nameBytes (held .previous))) → held .two ≡ true → m + n ≡ length (pointNames held)
-  two-size n f t = rw (t, length-append (object 0x87 (nameBytes (held .newest))) (object 0x88 (nameBytes (held .previous))), e, f)
+  pub two-size : (n : ℕ) → n ≡ length (object 0x88 (nameBytes (listed .second))) → listed .both ≡ true → m + n ≡ length (listedNames listed)
+  two-size n f t = rw (t, length-append (object 0x87 (nameBytes (listed .first))) (object 0x88 (nameBytes (listed .second))), e, f)
 
 -- ---- a string in two parts
 
@@ -145,9 +145,9 @@ module _ (n a : ℕ) (o₀ o₁ : List ℕ) (l : room ≤ length o₀) (ea : a �
   pub pair-room : (s : List ℕ) → length s ≤ longest → n ≤ 10 + length s → n ≡ length (nonceToken s) → a + length (nonceToken s) ≤ length o₁
   pair-room s m b e = omega (arith, kept, early)
 
-  pub names-room : (b j : ℕ) (s o₂ : List ℕ) (held : Held) → length s ≤ longest → j ≤ 42 → j ≡ length (pointNames held)
-      → b ≡ a + length (fitting a (objectOf 0x86 s) o₁) → o₂ ≡ over a (fitting a (objectOf 0x86 s) o₁) o₁ → b + length (pointNames held) ≤ length o₂
-  names-room b j s o₂ held m lj ej e f =
+  pub names-room : (b j : ℕ) (s o₂ : List ℕ) (listed : Listed) → length s ≤ longest → j ≤ 42 → j ≡ length (listedNames listed)
+      → b ≡ a + length (fitting a (objectOf 0x86 s) o₁) → o₂ ≡ over a (fitting a (objectOf 0x86 s) o₁) o₁ → b + length (listedNames listed) ≤ length o₂
+  names-room b j s o₂ listed m lj ej e f =
       let p = inside b 0x86 s o₂ m e f in
       let x = object-size 0x86 s in
       let y = size-most 0x86 (length s) in
@@ -181,15 +181,15 @@ module _ (n a : ℕ) (o₀ o₁ : List ℕ) (l : room ≤ length o₀) (ea : a �
         → r ≡ b + length (fitting b (wordBytes w) o₂) → o₃ ≡ over b (fitting b (wordBytes w) o₂) o₂ → Written (object 0x7C (nonceToken s) ++ wordBytes w) o₀ o₃ r
     pair-said b s o₂ m j e eb fb er fr = wrapped b (nonceToken s) o₂ e (omega arith) eb fb er fr
 
-    pub four-said : (b d i j : ℕ) (s o₂ o : List ℕ) (held : Held) → length s ≤ longest → n ≡ i + j → i ≡ sizeOf 0x86 (length s) → j ≤ 42 → j ≡ length (pointNames held)
-        → b ≡ a + length (fitting a (objectOf 0x86 s) o₁) → o₂ ≡ over a (fitting a (objectOf 0x86 s) o₁) o₁ → d ≡ b + length (pointNames held) → o ≡ over b (pointNames held) o₂
-        → r ≡ d + length (fitting d (wordBytes w) o) → o₃ ≡ over d (fitting d (wordBytes w) o) o → Written (object 0x7C (object 0x86 s ++ pointNames held) ++ wordBytes w) o₀ o₃ r
-    four-said b d i j s o₂ o held m en ei lj ej eb fb ed fd er fr =
+    pub four-said : (b d i j : ℕ) (s o₂ o : List ℕ) (listed : Listed) → length s ≤ longest → n ≡ i + j → i ≡ sizeOf 0x86 (length s) → j ≤ 42 → j ≡ length (listedNames listed)
+        → b ≡ a + length (fitting a (objectOf 0x86 s) o₁) → o₂ ≡ over a (fitting a (objectOf 0x86 s) o₁) o₁ → d ≡ b + length (listedNames listed) → o ≡ over b (listedNames listed) o₂
+        → r ≡ d + length (fitting d (wordBytes w) o) → o₃ ≡ over d (fitting d (wordBytes w) o) o → Written (object 0x7C (object 0x86 s ++ listedNames listed) ++ wordBytes w) o₀ o₃ r
+    four-said b d i j s o₂ o listed m en ei lj ej eb fb ed fd er fr =
         let x = object-size 0x86 s in
         let y = size-most 0x86 (length s) in
         let k = kept in
         let t = early in
-        let v = length-append (object 0x86 s) (pointNames held) in
+        let v = length-append (object 0x86 s) (listedNames listed) in
         let p = inside b 0x86 s o₂ m eb fb in
-        let q = joined a b d (object 0x86 s) (pointNames held) o₁ o₂ o (p .0) (p .1) ed fd (omega (arith, p .0)) in
-        wrapped d (object 0x86 s ++ pointNames held) o (omega arith) (omega arith) (q .0) (q .1) er fr
+        let q = joined a b d (object 0x86 s) (listedNames listed) o₁ o₂ o (p .0) (p .1) ed fd (omega (arith, p .0)) in
+        wrapped d (object 0x86 s ++ listedNames listed) o (omega arith) (omega arith) (q .0) (q .1) er fr

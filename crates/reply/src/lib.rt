@@ -2,7 +2,7 @@
 ghost use lib.ListN.{length};
 ghost use Rattle.buffers.specs.Lay.{Written};
 ghost use Rattle.reply.specs.Reply.{replyOf};
-use names::Held;
+use names::Listed;
 use strings::STRING;
 
 mod wire;
@@ -20,15 +20,15 @@ pub enum Layout {
     Flat,
     // 7C holding one object of this tag with the first string.
     Nest(u16),
-    // 7C holding 86 the first string, 87 the newest trust point's name, 88 the previous one's if held.
+    // 7C holding 86 the first string, 87 the newest trust point's name, 88 the previous one's if there are both.
     Confirmed,
     // 7C holding 81 the first eight bytes of the first string and 82 the rest.
     Pair,
 }
 
 // Writes the reply from the buffer's start, and answers its length.
-pub fn reply(out: &mut [u8], layout: Layout, word: u16, first: &[u8], held: Held) -> usize
-    ensures { λ r. ⌜ Written (replyOf (length (now (out .entry))) layout word (now (first .entry)) held) (now (out .entry)) (now (out .exit)) r ⌝ }
+pub fn reply(out: &mut [u8], layout: Layout, word: u16, first: &[u8], listed: Listed) -> usize
+    ensures { λ r. ⌜ Written (replyOf (length (now (out .entry))) layout word (now (first .entry)) listed) (now (out .entry)) (now (out .exit)) r ⌝ }
 {
     if out.len() < ROOM {
         return 0;
@@ -41,7 +41,7 @@ pub fn reply(out: &mut [u8], layout: Layout, word: u16, first: &[u8], held: Held
         Layout::Bare => wire::put_word(&mut *out, 0, word),
         Layout::Flat => wire::flat(&mut *out, word, first),
         Layout::Nest(tag) => wire::nest(&mut *out, word, tag, first),
-        Layout::Confirmed => wire::confirmed(&mut *out, word, first, held),
+        Layout::Confirmed => wire::confirmed(&mut *out, word, first, listed),
         Layout::Pair => wire::pair(&mut *out, word, first),
     }
 }

@@ -9,11 +9,11 @@ ghost use Rattle.buffers.specs.Lay.{Put, Written};
 ghost use Rattle.buffers.specs.Room.{fitting};
 ghost use Rattle.headers.specs.Encode.{object};
 ghost use Rattle.reply.specs.Bytes.{wordBytes};
-ghost use Rattle.reply.specs.Reply.{room, pointNames, nonceToken};
+ghost use Rattle.reply.specs.Reply.{room, listedNames, nonceToken};
 use headers::object_size;
 use headers::put_header;
 use headers::put_object;
-use names::Held;
+use names::Listed;
 use names::Name;
 use strings::clip;
 
@@ -37,17 +37,17 @@ fn put_name(out: &mut [u8], at: usize, tag: u16, name: Name) -> usize
     put_object(&mut *out, at, tag, &bytes[..n])
 }
 
-// The names of the trust points.
-fn put_names(out: &mut [u8], at: usize, held: Held) -> usize
-    requires { ⌜ at + length (pointNames held) ≤ length (now out) ⌝ }
-    ensures { λ r. ⌜ Put at (pointNames held) (now (out .entry)) (now (out .exit)) r ⌝ }
+// The names that are shown.
+fn put_names(out: &mut [u8], at: usize, listed: Listed) -> usize
+    requires { ⌜ at + length (listedNames listed) ≤ length (now out) ⌝ }
+    ensures { λ r. ⌜ Put at (listedNames listed) (now (out .entry)) (now (out .exit)) r ⌝ }
 {
-    let newest = held.newest;
-    let previous = held.previous;
-    let two = held.two;
-    let next = put_name(&mut *out, at, 0x87, newest);
-    if two {
-        return put_name(&mut *out, next, 0x88, previous);
+    let first = listed.first;
+    let second = listed.second;
+    let both = listed.both;
+    let next = put_name(&mut *out, at, 0x87, first);
+    if both {
+        return put_name(&mut *out, next, 0x88, second);
     }
     next
 }
@@ -70,15 +70,15 @@ fn size_name(tag: u16, name: Name) -> usize
     object_size(tag, n as u16)
 }
 
-// The same of the trust points' names.
-fn size_names(held: Held) -> usize
-    ensures { λ r. ⌜ (r ≤ 42) × (r ≡ length (pointNames held)) ⌝ }
+// The same of the names that are shown.
+fn size_names(listed: Listed) -> usize
+    ensures { λ r. ⌜ (r ≤ 42) × (r ≡ length (listedNames listed)) ⌝ }
 {
-    let newest = held.newest;
-    let previous = held.previous;
-    let n = size_name(0x87, newest);
-    if held.two {
-        return n + size_name(0x88, previous);
+    let first = listed.first;
+    let second = listed.second;
+    let n = size_name(0x87, first);
+    if listed.both {
+        return n + size_name(0x88, second);
     }
     n
 }
@@ -113,15 +113,15 @@ pub(crate) fn nest(out: &mut [u8], word: u16, tag: u16, first: &[u8]) -> usize
     put_word(&mut *out, b, word)
 }
 
-// 7C holding the first string and the trust points' names, and the word.
-pub(crate) fn confirmed(out: &mut [u8], word: u16, first: &[u8], held: Held) -> usize
+// 7C holding the first string and the names that are shown, and the word.
+pub(crate) fn confirmed(out: &mut [u8], word: u16, first: &[u8], listed: Listed) -> usize
     requires { ⌜ (room ≤ length (now out)) × (length (now first) ≤ longest) ⌝ }
-    ensures { λ r. ⌜ Written (object 0x7C (object 0x86 (now (first .entry)) ++ pointNames held) ++ wordBytes word) (now (out .entry)) (now (out .exit)) r ⌝ }
+    ensures { λ r. ⌜ Written (object 0x7C (object 0x86 (now (first .entry)) ++ listedNames listed) ++ wordBytes word) (now (out .entry)) (now (out .exit)) r ⌝ }
 {
-    let n = object_size(0x86, first.len() as u16) + size_names(held);
+    let n = object_size(0x86, first.len() as u16) + size_names(listed);
     let a = put_header(&mut *out, 0, 0x7C, n as u16);
     let b = put_object(&mut *out, a, 0x86, first);
-    let d = put_names(&mut *out, b, held);
+    let d = put_names(&mut *out, b, listed);
     put_word(&mut *out, d, word)
 }
 

@@ -3,7 +3,6 @@ use Prim.Native.Nat.{ℕ}
 use mathlib.Core.Bool.{cond}
 use mathlib.Core.Path.{_≡_}
 use mathlib.Core.List.{List, []}
-use lib.Dec.{ltb}
 use lib.ListN.{length, take}
 use Rattle.status.specs.declared.Word.{Word}
 use Rattle.status.specs.declared.Word.the-variants.{Outside}
@@ -13,7 +12,7 @@ use Rattle.verdicts.specs.declared.Answered.{Answered}
 use Rattle.verdicts.specs.declared.Happened.{Happened}
 use Rattle.verdicts.specs.Verdicts.{decidedOf}
 use Rattle.buffers.specs.Lay.{Written}
-use Rattle.reply.specs.Reply.{room}
+use Rattle.reply.specs.Reply.{short}
 use Rattle.answer.specs.Answer.{replyTo}
 use Rattle.token.specs.declared.state.Token.{Token}
 use Rattle.token.specs.Plan.{planOf}
@@ -51,7 +50,7 @@ endedBy t h x = record { token = nextOf t h; word = wordOf (h .event); bytes = r
 
 -- 6F00, "reply buffer under 258 bytes": "same; nothing written, length 0"; else plan, decide, after, reply
 unfoldable pub stepOf : Token → Exchange → Stepped
-stepOf t x = cond (ltb (x .size) room) (record { token = t; word = Outside; bytes = [] }) (endedBy t (happenedOf t x) x)
+stepOf t x = cond (short (x .size)) (record { token = t; word = Outside; bytes = [] }) (endedBy t (happenedOf t x) x)
 
 -- what a step does to a token and a buffer: "It gives the next state and the reply length", and the reply stands "from the buffer's
 -- start; the rest stays"

@@ -31,7 +31,7 @@ impl Token {
 
     pub const USES: u8 = 10;
     // The longest command, the least reply buffer, the longest name and the longest announced key.
-    pub const COMMAND: usize = command::form::COMMAND;
+    pub const COMMAND: usize = form::COMMAND;
 
     pub const ROOM: usize = reply::ROOM;
 

@@ -6,7 +6,7 @@ use Rattle.rights.specs.Rights.{roleOf}
 use Rattle.roles.specs.Roles.{isCvca}
 use Rattle.certificate.specs.Certificate.{noCertificate, certificateFits}
 use Rattle.names.specs.declared.Name.{Name}
-use Rattle.names.specs.declared.Held.{Held}
+use Rattle.names.specs.declared.Listed.{Listed}
 use Rattle.certificate.specs.declared.Certificate.{Certificate}
 use Rattle.event.specs.declared.Issuer.{Issuer}
 use Rattle.event.specs.declared.Issuer.the-variants.{Newest, Previous, Dv}
@@ -52,9 +52,9 @@ holds h Dv stands = stands
 abbrev pub pointsHeld : Points → List Certificate
 pointsHeld h = h .newest ∷ cond (h .two) (h .previous ∷ []) []
 
--- their names, as a reply shows them
-abbrev pub namesOf : Points → Held
-namesOf h = record { newest = h .newest .name; previous = h .previous .name; two = h .two }
+-- their names, as a reply shows them: the newest, then the previous if held
+abbrev pub namesOf : Points → Listed
+namesOf h = record { first = h .newest .name; second = h .previous .name; both = h .two }
 
 -- "a link becomes newest, newest becomes previous"
 unfoldable pub linked : Points → Certificate → Points

@@ -3,7 +3,7 @@ ghost use mathlib.Core.Path.{_≡_};
 ghost use Rattle.trust.specs.Trust.{trustPointFits, onePoint, twoPoints, pointsFit, knows, found, issuerOf, holds, namesOf, linked};
 use certificate::Certificate;
 use event::Issuer;
-use names::Held;
+use names::Listed;
 use names::Name;
 
 pub struct Points {
@@ -117,18 +117,18 @@ impl Points {
         }
     }
 
-    // The names of the points held.
-    pub fn names(self) -> Held
+    // The names held, as a reply shows them: the newest, then the previous.
+    pub fn names(self) -> Listed
         ensures { λ r. ⌜ r ≡ namesOf self ⌝ }
     {
         let newest = self.newest;
         let previous = self.previous;
         let a = newest.name;
         let b = previous.name;
-        Held {
-            newest: a,
-            previous: b,
-            two: self.two,
+        Listed {
+            first: a,
+            second: b,
+            both: self.two,
         }
     }
 

@@ -21,10 +21,10 @@ fn counters(out: &mut [u8], pin: u8, active: bool, puk: u8) -> usize {
 }
 
 fn trusted(out: &mut [u8], at: usize, today: Day, p: Points) -> usize {
-    let held = p.names();
+    let listed = p.names();
     let a = labelled::day(&mut *out, at, b" today=", today);
-    let b = labelled::name(&mut *out, a, b" newest=", true, held.newest);
-    labelled::name(&mut *out, b, b" previous=", held.two, held.previous)
+    let b = labelled::name(&mut *out, a, b" newest=", true, listed.first);
+    labelled::name(&mut *out, b, b" previous=", listed.both, listed.second)
 }
 
 fn opener(o: Opened) -> usize {
