@@ -21,13 +21,11 @@ use trust::Trusted;
 pub fn select(points: Points, chain: Chain, name: Name) -> Plan
     ensures { λ r. ⌜ r ≡ selectPlan points chain name ⌝ }
 {
-    let dv = chain.dv;
-    let dv_name = dv.name;
     if let Trusted::Is(issuer) = points.find(name) {
         return Plan::settled(Event::Selected(issuer));
     }
     let held = chain.has_dv();
-    let same = name.same(dv_name);
+    let same = name.same(chain.dv.name);
     if held & same {
         return Plan::settled(Event::Selected(Issuer::Dv));
     }
@@ -49,9 +47,8 @@ fn issues(issuer: Issuer, role: Role) -> bool
 fn repeats(points: Points, dv: Certificate, name: Name, role: Role) -> bool
     ensures { λ r. ⌜ r ≡ repeats points dv name role ⌝ }
 {
-    let dv_name = dv.name;
     let known = points.knows(name);
-    let same = name.same(dv_name);
+    let same = name.same(dv.name);
     let terminal = role.is_terminal();
     known | (terminal & same)
 }
@@ -90,7 +87,6 @@ fn issued(
 ) -> Ending
     ensures { λ r. ⌜ r ≡ issuedEnding points dv today which issuer brought role ⌝ }
 {
-    let name = brought.name;
     let certificate = brought.certificate;
     if !issues(which, role) {
         return Ending::Settled(Event::Refused(Refusal::Data)); // "else 6A80"
@@ -98,7 +94,7 @@ fn issued(
     if repeats(points, dv, certificate.name, role) {
         return Ending::Settled(Event::Refused(Refusal::Data)); // "A new name differs .. (6A80)"
     }
-    if !name.same(issuer.name) {
+    if !brought.name.same(issuer.name) {
         return Ending::Settled(Event::Refused(Refusal::NotFound)); // "whose name must equal 42 (6A88)"
     }
     if late(today, certificate, issuer, role) {
@@ -112,9 +108,7 @@ fn issued(
 fn under(points: Points, dv: Certificate, today: Day, which: Issuer, brought: Brought) -> Plan
     ensures { λ r. ⌜ r ≡ underPlan points dv today which brought ⌝ }
 {
-    let certificate = brought.certificate;
-    let rights = certificate.rights;
-    let role = rights.role();
+    let role = brought.certificate.rights.role();
     let issuer = points.issuer(which, dv);
     let ending = issued(points, dv, today, which, issuer, brought, role);
     Plan {

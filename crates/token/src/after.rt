@@ -46,8 +46,7 @@ impl Token {
     fn choice_taken(mut self, choice: Choice) -> Self
         ensures { λ r. ⌜ r ≡ choiceTaken self choice ⌝ }
     {
-        let z = self.session;
-        let s = z.rechosen(choice);
+        let s = self.session.rechosen(choice);
         self.session = s;
         self
     }
@@ -56,8 +55,7 @@ impl Token {
     fn staged(mut self, stage: Stage) -> Self
         ensures { λ r. ⌜ r ≡ staged self stage ⌝ }
     {
-        let z = self.session;
-        let s = z.at(stage);
+        let s = self.session.at(stage);
         self.session = s;
         self
     }
@@ -66,8 +64,7 @@ impl Token {
     fn proof_lost(mut self) -> Self
         ensures { λ r. ⌜ r ≡ staged self Announced ⌝ }
     {
-        let z = self.session;
-        let s = z.proof_lost();
+        let s = self.session.proof_lost();
         self.session = s;
         self
     }
@@ -96,8 +93,7 @@ impl Token {
     fn run_closed(mut self) -> Self
         ensures { λ r. ⌜ r ≡ runClosed self ⌝ }
     {
-        let z = self.session;
-        let c = z.context;
+        let c = self.session.context;
         let o = c.opened;
         let s = Session::bare(o, Granted::NoRights, Stage::Idle);
         self.session = s;
@@ -115,8 +111,7 @@ impl Token {
     fn issuer_selected(mut self, issuer: Issuer) -> Self
         ensures { λ r. ⌜ r ≡ issuerSelected self issuer ⌝ }
     {
-        let z = self.session;
-        let s = z.selecting(issuer);
+        let s = self.session.selecting(issuer);
         self.session = s;
         self
     }
@@ -125,12 +120,9 @@ impl Token {
     fn link_taken(mut self, link: Certificate) -> Self
         ensures { λ r. ⌜ r ≡ linkTaken self link ⌝ }
     {
-        let h = self.points;
-        let z = self.session;
-        let d = self.today;
-        let points = h.linked(link);
-        let session = z.unchained();
-        let today = d.later(link.first);
+        let points = self.points.linked(link);
+        let session = self.session.unchained();
+        let today = self.today.later(link.first);
         self.points = points;
         self.session = session;
         self.today = today;
@@ -141,16 +133,14 @@ impl Token {
     fn dv_taken(mut self, dv: Certificate, trusted: Rights) -> Self
         ensures { λ r. ⌜ r ≡ dvTaken self dv trusted ⌝ }
     {
-        let z = self.session;
-        let d = self.today;
         let none = Certificate::none();
         let chain = Chain {
             reach: Reach::ToDv(trusted),
             dv: dv,
             terminal: none,
         };
-        let session = z.chained(chain);
-        let today = d.later(dv.first);
+        let session = self.session.chained(chain);
+        let today = self.today.later(dv.first);
         self.session = session;
         self.today = today;
         self
@@ -160,10 +150,7 @@ impl Token {
     fn terminal_taken(mut self, terminal: Certificate) -> Self
         ensures { λ r. ⌜ r ≡ terminalTaken self terminal ⌝ }
     {
-        let z = self.session;
-        let c = z.context;
-        let old = c.chain;
-        let d = self.today;
+        let old = self.session.context.chain;
         let reach = old.reach;
         let dv = old.dv;
         let more = extended(reach);
@@ -172,8 +159,8 @@ impl Token {
             dv: dv,
             terminal: terminal,
         };
-        let session = z.chained(chain);
-        let today = today_after(dv, terminal, d);
+        let session = self.session.chained(chain);
+        let today = today_after(dv, terminal, self.today);
         self.session = session;
         self.today = today;
         self
@@ -182,8 +169,7 @@ impl Token {
     fn announced(mut self, key: Key) -> Self
         ensures { λ r. ⌜ r ≡ announced self key ⌝ }
     {
-        let z = self.session;
-        let s = z.announced(key);
+        let s = self.session.announced(key);
         self.session = s;
         self
     }
@@ -218,9 +204,6 @@ impl Token {
         ensures { λ r. ⌜ r ≡ afterOf self (h .event) (h .brought) ⌝ }
     {
         let e = h.event;
-        let brought = h.brought;
-        let certificate = brought.certificate;
-        let key = brought.key;
         match e {
             Event::Refused(_) => self,
             Event::Lost(_) => self.reset(),
@@ -230,10 +213,10 @@ impl Token {
             Event::RunClosed => self.run_closed(),
             Event::TrialLost(left) => self.trial_lost(left),
             Event::Selected(issuer) => self.issuer_selected(issuer),
-            Event::LinkTaken => self.link_taken(certificate),
-            Event::DvTaken(trusted) => self.dv_taken(certificate, trusted),
-            Event::TerminalTaken => self.terminal_taken(certificate),
-            Event::Announced => self.announced(key),
+            Event::LinkTaken => self.link_taken(h.brought.certificate),
+            Event::DvTaken(trusted) => self.dv_taken(h.brought.certificate, trusted),
+            Event::TerminalTaken => self.terminal_taken(h.brought.certificate),
+            Event::Announced => self.announced(h.brought.key),
             Event::Challenged => self.staged(Stage::Challenged),
             Event::Proven => self.staged(Stage::Proven),
             Event::ProofLost => self.proof_lost(),

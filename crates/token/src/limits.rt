@@ -21,20 +21,15 @@ impl Token {
     pub(crate) fn in_limits(self) -> bool
         ensures { λ b. ⌜ b ≡ inLimits self ⌝ }
     {
-        let points = self.points;
         let session = self.session;
         let selected = session.selected;
-        let context = session.context;
-        let chain = context.chain;
-        let dv = chain.dv;
-        let name = dv.name;
-        let today = self.today;
-        let dated = today.fits();
-        let trusted = points.fit();
-        let parts = context_fits(context, self.pin);
+        let chain = session.context.chain;
+        let dated = self.today.fits();
+        let trusted = self.points.fit();
+        let parts = context_fits(session.context, self.pin);
         let held = chain.has_dv();
-        let known = points.knows(name);
-        let chosen = selectable(selected, points, held);
+        let known = self.points.knows(chain.dv.name);
+        let chosen = selectable(selected, self.points, held);
         (self.pin <= Token::TRIES)
             & (self.puk <= Token::USES)
             & dated

@@ -20,34 +20,30 @@ impl Token {
     fn command(self, a: Asked, ask: Ask) -> Plan
         ensures { λ r. ⌜ r ≡ commandOf self a ask ⌝ }
     {
-        let points = self.points;
-        let session = self.session;
-        let context = session.context;
-        let chain = context.chain;
-        let dv = chain.dv;
-        let terminal = chain.terminal;
-        let brought = a.brought;
         match ask {
             Ask::Bad => Plan::settled(Event::Refused(Refusal::Data)),
             Ask::Choose(choice) => {
-                let o = context.opened;
-                checks::choose(self.pin, self.active, self.puk, o, choice)
+                let context = self.session.context;
+                let opened = context.opened;
+                checks::choose(self.pin, self.active, self.puk, opened, choice)
             }
-            Ask::General(content) => checks::general(context, self.pin, content),
-            Ask::Select => certify::select(points, chain, brought.name),
+            Ask::General(content) => checks::general(self.session.context, self.pin, content),
+            Ask::Select => certify::select(self.points, self.session.context.chain, a.brought.name),
             Ask::Verify => {
+                let session = self.session;
                 let selected = session.selected;
-                certify::verify(points, dv, self.today, selected, brought)
+                let dv = session.context.chain.dv;
+                certify::verify(self.points, dv, self.today, selected, a.brought)
             }
-            Ask::Announce => checks::announce(terminal.name, brought),
+            Ask::Announce => checks::announce(self.session.context.chain.terminal.name, a.brought),
             Ask::Challenge => Plan::awaits(Job::Challenge, Event::Challenged, Event::NotPassed),
             Ask::Prove => Plan::awaits(Job::Proof, Event::Proven, Event::ProofLost),
             Ask::ChooseChipKey => Plan::settled(Event::ChipKeyChosen),
-            Ask::Read(group) => checks::read(context, group),
-            Ask::ChangePin => checks::change_pin(context, self.active),
-            Ask::Unblock => checks::unblock(context, self.pin, self.puk),
-            Ask::Activate => checks::set_active(context, Event::Activated),
-            Ask::Deactivate => checks::set_active(context, Event::Deactivated),
+            Ask::Read(group) => checks::read(self.session.context, group),
+            Ask::ChangePin => checks::change_pin(self.session.context, self.active),
+            Ask::Unblock => checks::unblock(self.session.context, self.pin, self.puk),
+            Ask::Activate => checks::set_active(self.session.context, Event::Activated),
+            Ask::Deactivate => checks::set_active(self.session.context, Event::Deactivated),
         }
     }
 
@@ -55,8 +51,7 @@ impl Token {
     fn timed(self, a: Asked, kind: Kind, chained: bool, ask: Ask) -> Plan
         ensures { λ r. ⌜ r ≡ timedOf self a kind chained ask ⌝ }
     {
-        let z = self.session;
-        if !moment(z, kind, chained) {
+        if !moment(self.session, kind, chained) {
             return Plan::settled(Event::Refused(Refusal::Moment));
         }
         self.command(a, ask)
@@ -80,14 +75,11 @@ impl Token {
         if !self.in_limits() {
             return Plan::settled(Event::Refused(Refusal::Outside));
         }
-        let z = self.session;
-        let c = z.context;
-        let o = c.opened;
-        let held = o.is_open();
-        let a = fields::asked_of(s);
-        match note.guard(held) {
+        let context = self.session.context;
+        let opened = context.opened;
+        match note.guard(opened.is_open()) {
             Guard::Drops(loss) => Plan::settled(Event::Lost(loss)),
-            Guard::Passes => self.requested(a),
+            Guard::Passes => self.requested(fields::asked_of(s)),
         }
     }
 

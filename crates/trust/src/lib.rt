@@ -22,9 +22,8 @@ pub enum Trusted {
 fn trust_point_fits(p: Certificate) -> bool
     ensures { λ r. ⌜ r ≡ trustPointFits p ⌝ }
 {
-    let rights = p.rights;
     let fits = p.fits();
-    let is_cvca = rights.role().is_cvca();
+    let is_cvca = p.rights.role().is_cvca();
     fits & is_cvca
 }
 
@@ -54,13 +53,9 @@ impl Points {
     pub fn fit(self) -> bool
         ensures { λ r. ⌜ r ≡ pointsFit self ⌝ }
     {
-        let newest = self.newest;
-        let previous = self.previous;
-        let a = newest.name;
-        let b = previous.name;
-        let first = trust_point_fits(newest);
-        let second = trust_point_fits(previous);
-        let same = b.same(a);
+        let first = trust_point_fits(self.newest);
+        let second = trust_point_fits(self.previous);
+        let same = self.previous.name.same(self.newest.name);
         first & (!self.two | (second & !same))
     }
 
@@ -68,12 +63,8 @@ impl Points {
     pub fn knows(self, name: Name) -> bool
         ensures { λ r. ⌜ r ≡ knows self name ⌝ }
     {
-        let newest = self.newest;
-        let previous = self.previous;
-        let a = newest.name;
-        let b = previous.name;
-        let first = name.same(a);
-        let second = name.same(b);
+        let first = name.same(self.newest.name);
+        let second = name.same(self.previous.name);
         first | (self.two & second)
     }
 
@@ -81,14 +72,10 @@ impl Points {
     pub fn find(self, name: Name) -> Trusted
         ensures { λ r. ⌜ r ≡ found self name ⌝ }
     {
-        let newest = self.newest;
-        let previous = self.previous;
-        let a = newest.name;
-        let b = previous.name;
-        if name.same(a) {
+        if name.same(self.newest.name) {
             return Trusted::Is(Issuer::Newest);
         }
-        let second = name.same(b);
+        let second = name.same(self.previous.name);
         if self.two & second {
             return Trusted::Is(Issuer::Previous);
         }
@@ -121,13 +108,11 @@ impl Points {
     pub fn names(self) -> Listed
         ensures { λ r. ⌜ r ≡ namesOf self ⌝ }
     {
-        let newest = self.newest;
-        let previous = self.previous;
-        let a = newest.name;
-        let b = previous.name;
+        let first = self.newest.name;
+        let second = self.previous.name;
         Listed {
-            first: a,
-            second: b,
+            first: first,
+            second: second,
             both: self.two,
         }
     }

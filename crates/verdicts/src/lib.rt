@@ -103,10 +103,7 @@ fn taken_in(job: Job, brought: Brought, number: u64) -> Brought
     match job {
         Job::Nothing => brought,
         Job::Step(_) => brought,
-        Job::Certificate => {
-            let certificate = brought.certificate;
-            brought.with_certificate(certificate.with_key(number))
-        }
+        Job::Certificate => { brought.with_certificate(brought.certificate.with_key(number)) }
         Job::Challenge => brought,
         Job::Proof => brought,
         Job::ChipKey => brought,
@@ -130,8 +127,7 @@ fn ends(plan: Plan, e: Event) -> Happened
 fn passes(plan: Plan, job: Job, number: u64, e: Event, answer: usize) -> Happened
     ensures { λ r. ⌜ r ≡ passesBy plan job number e answer ⌝ }
 {
-    let brought = plan.brought;
-    let taken = taken_in(job, brought, number);
+    let taken = taken_in(job, plan.brought, number);
     Happened {
         event: e,
         brought: taken,
@@ -154,9 +150,7 @@ fn judged(
     let Verdict::Passed(number) = v else {
         return ends(plan, otherwise);
     };
-    let brought = plan.brought;
-    let key = brought.key;
-    if matches(job, key, second) {
+    if matches(job, plan.brought.key, second) {
         return passes(plan, job, number, passed, first);
     }
     ends(plan, otherwise)
