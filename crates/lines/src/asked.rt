@@ -1,37 +1,38 @@
 // What a token wants, and which groups it would let be read.
-use plans::Job;
 use plans::Note;
 use reply::ROOM;
 use text::front;
 use token::state::Token;
-use verdicts::Answered;
-use verdicts::Verdict;
 use wording::BYTES;
 use wording::asked::done;
 use wording::asked::read_group;
 use wording::asked::read_question;
 use wording::asked::wanted;
 use wording::asked::yes_or_no;
+use wording::send::no_result;
 
 pub(crate) fn want(token: Token, line: &[u8], out: &mut [u8]) -> usize {
     let mut command = [0u8; BYTES];
     let x = read_question(line, &mut command);
-    let note = x.note;
     if !x.good {
         return 0;
     }
+    let note = x.note;
     wanted(&mut *out, token.job(front(&command, x.len), note))
 }
 
-// Whether a correct protected read of this group is answered 9000.
-fn allowed(token: Token, group: u8) -> bool {
-    let s = [0, 0xB0, 128 + group % 128, 0, 0];
-    let none = Answered {
-        job: Job::Nothing,
-        verdict: Verdict::Missing,
-    };
+// Whether this command, if it came protected, is answered 9000.
+fn allowed(token: Token, command: &[u8]) -> bool {
+    let empty = &command[..0];
     let mut reply = [0u8; ROOM];
-    let r = token.step(&s, Note::Protected, none, b"", b"", &mut reply);
+    let r = token.step(
+        command,
+        Note::Protected,
+        no_result(),
+        empty,
+        empty,
+        &mut reply,
+    );
     done(reply, r.len)
 }
 
@@ -40,5 +41,6 @@ pub(crate) fn read(token: Token, line: &[u8], out: &mut [u8]) -> usize {
     if !x.good {
         return 0;
     }
-    yes_or_no(&mut *out, allowed(token, x.number))
+    let command = x.command;
+    yes_or_no(&mut *out, allowed(token, &command))
 }

@@ -4,13 +4,13 @@ ghost use lib.ListN.{length};
 ghost use mathlib.Core.Path.{_≡_};
 ghost use Rattle.words.specs.Verbs.{verbOf, actOf};
 ghost use Rattle.lines.specs.Turns.{resetBy, Turned};
-use buffers::put;
 use desk_token::Desk;
 use desk_token::Turn;
-use strings::clip;
 use token::state::Token;
 use wording::body::body;
 use wording::expected::finished;
+use wording::intake::ok;
+use wording::state::state;
 use words::Act;
 use words::Verb;
 use words::count;
@@ -19,7 +19,6 @@ use words::verb_of;
 mod asked;
 mod personalise;
 mod send;
-mod state;
 
 fn reset(desk: Desk, line: &[u8], out: &mut [u8]) -> Turn
     ensures { λ r. ⌜ r .desk ≡ resetBy desk (now (line .entry)) ⌝ }
@@ -28,7 +27,7 @@ fn reset(desk: Desk, line: &[u8], out: &mut [u8]) -> Turn
         return Turn { desk: desk, len: 0 };
     }
     let next = desk.reset();
-    let len = put(&mut *out, 0, b"ok");
+    let len = ok(&mut *out);
     Turn {
         desk: next,
         len: len,
@@ -41,7 +40,16 @@ fn told(token: Token, verb: Verb, line: &[u8], out: &mut [u8]) -> usize {
         Verb::Want => asked::want(token, line, &mut *out),
         Verb::Read => asked::read(token, line, &mut *out),
         Verb::Body => body(line, &mut *out),
-        Verb::State => state::state(token, line, &mut *out),
+        Verb::State => state(
+            line,
+            &mut *out,
+            token.pin,
+            token.active,
+            token.puk,
+            token.today,
+            token.points,
+            token.session,
+        ),
         _ => 0,
     }
 }
@@ -55,8 +63,7 @@ fn carried(desk: Desk, verb: Verb, line: &[u8], out: &mut [u8]) -> Turn
         Act::Sends => send::send(desk, line, &mut *out),
         Act::Resets => reset(desk, line, &mut *out),
         Act::Tells => {
-            let token = desk.token;
-            let len = told(token, verb, line, &mut *out);
+            let len = told(desk.token, verb, line, &mut *out);
             Turn {
                 desk: desk,
                 len: len,
@@ -73,7 +80,6 @@ pub fn answer(desk: Desk, line: &[u8], out: &mut [u8]) -> Turn
     let verb = verb_of(line, desk.held);
     let mut t = carried(desk, verb, line, &mut *out);
     let len = finished(&mut *out, verb, t.len);
-    let fits = clip(len, out.len());
-    t.len = fits;
+    t.len = len;
     t
 }

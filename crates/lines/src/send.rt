@@ -4,7 +4,6 @@ use desk_token::Desk;
 use desk_token::Turn;
 use reply::ROOM;
 use text::front;
-use verdicts::Answered;
 use wording::BYTES;
 use wording::send::Sent;
 use wording::send::read_sent;
@@ -14,17 +13,9 @@ use wording::send::replied;
 fn step_of(desk: Desk, x: Sent, command: &[u8], first: &[u8], second: &[u8], out: &mut [u8]) -> Turn
     ensures { λ r. ⌜ Stepped desk (r .desk) ⌝ }
 {
-    let token = desk.token;
     let note = x.note;
-    let verdict = x.verdict;
-    let named = x.job;
     let s = front(command, x.command);
-    let wanted = token.job(s, note);
-    let job = named.job_or(wanted);
-    let result = Answered {
-        job: job,
-        verdict: verdict,
-    };
+    let result = x.result(desk.token.job(s, note));
     let mut reply = [0u8; ROOM];
     let mut t = desk.step(
         s,

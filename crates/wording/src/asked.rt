@@ -18,10 +18,10 @@ pub struct Question {
     pub len: usize,
 }
 
-// A data group that may be asked about; not good where a word is not as it should be.
+// A data group that may be asked about, by the command that reads it; not good where a word is not as it should be.
 pub struct Group {
     pub good: bool,
-    pub number: u8,
+    pub command: [u8; 5],
 }
 
 pub fn read_question(line: &[u8], command: &mut [u8]) -> Question {
@@ -46,9 +46,10 @@ pub fn wanted(out: &mut [u8], job: Job) -> usize {
 
 pub fn read_group(line: &[u8]) -> Group {
     let x = number(word(line, 1), Radix::Ten);
+    let command = [0, 0xB0, 128 + (x.n % 128) as u8, 0, 0];
     Group {
         good: x.good & (1 <= x.n) & (x.n <= 21) & (count(line, b' ') == 1),
-        number: (x.n % 256) as u8,
+        command: command,
     }
 }
 

@@ -1,6 +1,6 @@
 // The body of a certificate.
 use super::BYTES;
-use super::expected::refused;
+use super::intake::refused;
 use super::labelled;
 use super::stated::string;
 use bodies::Body;
@@ -25,25 +25,17 @@ fn place(out: &mut [u8], at: usize, label: &[u8], p: Place) -> usize {
 }
 
 fn terms(out: &mut [u8], issuer: Name, p: Certificate) -> usize {
-    let own = p.name;
-    let rights = p.rights;
-    let first = p.first;
-    let last = p.last;
     let a = labelled::name(&mut *out, 0, b"issuer=", true, issuer);
-    let b = labelled::name(&mut *out, a, b" name=", true, own);
-    let c = labelled::rights(&mut *out, b, b" rights=", rights);
-    let d = labelled::day(&mut *out, c, b" first=", first);
-    labelled::day(&mut *out, d, b" last=", last)
+    let b = labelled::name(&mut *out, a, b" name=", true, p.name);
+    let c = labelled::rights(&mut *out, b, b" rights=", p.rights);
+    let d = labelled::day(&mut *out, c, b" first=", p.first);
+    labelled::day(&mut *out, d, b" last=", p.last)
 }
 
 fn fields(out: &mut [u8], b: Body) -> usize {
-    let issuer = b.issuer;
-    let certificate = b.certificate;
-    let key = b.key;
-    let extension = b.ext;
-    let x = terms(&mut *out, issuer, certificate);
-    let y = place(&mut *out, x, b" key=", key);
-    let z = place(&mut *out, y, b" extension=", extension);
+    let x = terms(&mut *out, b.issuer, b.certificate);
+    let y = place(&mut *out, x, b" key=", b.key);
+    let z = place(&mut *out, y, b" extension=", b.ext);
     labelled::number(&mut *out, z, b" objects=", b.count as u64)
 }
 
@@ -55,9 +47,8 @@ pub fn body(line: &[u8], out: &mut [u8]) -> usize {
     }
     let r = read_body(front(&work, a.len));
     let answer = r.answer;
-    let read = r.body;
     if let Intake::Unfit = answer {
         return refused(&mut *out, answer);
     }
-    fields(&mut *out, read)
+    fields(&mut *out, r.body)
 }

@@ -1,8 +1,8 @@
 // What is answered where a line is not as it should be.
+ghost use Prim.Native.Nat.{_≤_};
+ghost use lib.ListN.{length};
 use super::labels::label;
-use digits::number::Radix;
-use digits::number::put_digits;
-use status::Intake;
+use strings::clip;
 use words::Verb;
 
 // What was expected, and what else a line is answered that is not as it should be.
@@ -29,14 +29,12 @@ fn expected(out: &mut [u8], verb: Verb) -> usize {
 }
 
 // The length of the answer, which is what was expected where there is none yet.
-pub fn finished(out: &mut [u8], verb: Verb, len: usize) -> usize {
+pub fn finished(out: &mut [u8], verb: Verb, len: usize) -> usize
+    ensures { λ r. ⌜ r ≤ length (now (out .entry)) ⌝ }
+{
+    let room = out.len();
     if len == 0 {
-        return expected(&mut *out, verb);
+        return clip(expected(&mut *out, verb), room);
     }
-    len
-}
-
-// The word of an intake.
-pub fn refused(out: &mut [u8], made: Intake) -> usize {
-    put_digits(&mut *out, 0, made.word().number() as u64, Radix::Sixteen, 4)
+    clip(len, room)
 }

@@ -2,6 +2,7 @@
 pub mod asked;
 pub mod body;
 pub mod expected;
+pub mod intake;
 mod labelled;
 mod labels;
 pub mod personalisation;

@@ -12,6 +12,7 @@ use plans::job_of;
 use reply::ROOM;
 use strings::same;
 use text::front;
+use verdicts::Answered;
 use verdicts::Verdict;
 use words::count;
 use words::word;
@@ -43,6 +44,13 @@ pub struct Sent {
     pub command: usize,
     pub first: usize,
     pub second: usize,
+}
+
+pub fn no_result() -> Answered {
+    Answered {
+        job: Job::Nothing,
+        verdict: Verdict::Missing,
+    }
 }
 
 pub(crate) fn note_named(w: &[u8]) -> Noted {
@@ -116,12 +124,25 @@ fn job_at(line: &[u8], n: usize) -> Named {
 
 impl Named {
     // The job that the result is for.
-    pub fn job_or(self, wanted: Job) -> Job {
+    fn job_or(self, wanted: Job) -> Job {
         if self.left_out {
             return wanted;
         }
         let job = self.job;
         job
+    }
+}
+
+impl Sent {
+    // The crypto result, for the job that is wanted where the line names none.
+    pub fn result(self, wanted: Job) -> Answered {
+        let verdict = self.verdict;
+        let named = self.job;
+        let job = named.job_or(wanted);
+        Answered {
+            job: job,
+            verdict: verdict,
+        }
     }
 }
 

@@ -1,6 +1,7 @@
 // What a token keeps over a reset, and what it loses: its session.
 use super::labelled;
 use super::labels::label;
+use authorization::authorization;
 use buffers::put;
 use days::Day;
 use event::Issuer;
@@ -13,6 +14,7 @@ use standing::Opened;
 use standing::Selected;
 use standing::Stage;
 use trust::Points;
+use words::count;
 
 fn counters(out: &mut [u8], pin: u8, active: bool, puk: u8) -> usize {
     let a = labelled::number(&mut *out, 0, b"pin=", pin as u64);
@@ -75,12 +77,14 @@ fn opened(out: &mut [u8], at: usize, o: Opened, s: Stage, g: Granted) -> usize {
 }
 
 fn chained(out: &mut [u8], at: usize, c: Chain) -> usize {
-    let dv = c.dv;
-    let terminal = c.terminal;
-    let one = c.has_dv();
-    let two = c.has_terminal();
-    let a = labelled::name(&mut *out, at, b" dv=", one, dv.name);
-    labelled::name(&mut *out, a, b" terminal=", two, terminal.name)
+    let a = labelled::name(&mut *out, at, b" dv=", c.has_dv(), c.dv.name);
+    labelled::name(
+        &mut *out,
+        a,
+        b" terminal=",
+        c.has_terminal(),
+        c.terminal.name,
+    )
 }
 
 fn issuer(s: Selected) -> usize {
@@ -105,20 +109,37 @@ fn ended(out: &mut [u8], at: usize, s: Selected, r: Rights) -> usize {
 }
 
 // What is kept over a reset; the place after it.
-pub fn kept(out: &mut [u8], pin: u8, active: bool, puk: u8, today: Day, p: Points) -> usize {
+fn kept(out: &mut [u8], pin: u8, active: bool, puk: u8, today: Day, p: Points) -> usize {
     let a = counters(&mut *out, pin, active, puk);
     trusted(&mut *out, a, today, p)
 }
 
 // What is lost at a reset, and the rights that a session has in effect.
-pub fn lost(out: &mut [u8], at: usize, s: Session, effective: Rights) -> usize {
+fn lost(out: &mut [u8], at: usize, s: Session) -> usize {
     let selected = s.selected;
     let context = s.context;
     let who = context.opened;
     let which = context.stage;
     let confirmed = context.confirmed;
-    let chain = context.chain;
     let a = opened(&mut *out, at, who, which, confirmed);
-    let b = chained(&mut *out, a, chain);
-    ended(&mut *out, b, selected, effective)
+    let b = chained(&mut *out, a, context.chain);
+    ended(&mut *out, b, selected, authorization(context))
+}
+
+// What a token keeps, and its session; nothing where the line has another word.
+pub fn state(
+    line: &[u8],
+    out: &mut [u8],
+    pin: u8,
+    active: bool,
+    puk: u8,
+    today: Day,
+    p: Points,
+    s: Session,
+) -> usize {
+    if count(line, b' ') != 0 {
+        return 0;
+    }
+    let at = kept(&mut *out, pin, active, puk, today, p);
+    lost(&mut *out, at, s)
 }

@@ -11,7 +11,6 @@ reset-spec =
     (λ c κs. search needs)
     (λ c. search not-reset)
     (λ c κs. search needs)
-    (λ c. search needs)
     (λ c κs. search needs)
     (λ c. search needs)
     (λ c. search reset-so depth 6))
