@@ -22,8 +22,7 @@ fn say(desk: Desk, whole: bool, line: &[u8]) -> Desk {
     let mut out = [0u8; ANSWER];
     let t = answer(desk, line, &mut out);
     write(out, t.len);
-    let next = t.desk;
-    next
+    t.desk
 }
 
 fn run(input: &mut [u8], line: &mut [u8]) {

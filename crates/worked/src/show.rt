@@ -53,18 +53,13 @@ fn name(n: Name) {
 }
 
 fn fields(b: Body) {
-    let issuer = b.issuer;
     let certificate = b.certificate;
-    let holder = certificate.name;
-    let held = certificate.rights;
-    let first = certificate.first;
-    let last = certificate.last;
     write(b"read ");
-    name(issuer);
-    name(holder);
-    rights(held);
-    day(first);
-    day(last);
+    name(b.issuer);
+    name(certificate.name);
+    rights(certificate.rights);
+    day(certificate.first);
+    day(certificate.last);
     number(b.count);
 }
 
@@ -76,8 +71,7 @@ pub fn body(called: &[u8], s: &[u8]) {
     let answer = r.answer;
     match answer {
         Intake::Accepted => {
-            let b = r.body;
-            fields(b);
+            fields(r.body);
         }
         Intake::Unfit => {
             word(Word::Data);

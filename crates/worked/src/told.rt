@@ -36,25 +36,41 @@ fn comment(line: &[u8]) {
     write(b"\n");
 }
 
-// Whether there is no line yet, or one that is told without a token.
-fn apart(whole: bool, line: &[u8]) -> bool {
+// What is done with a line: nothing, where there is none yet or it was told without a token.
+enum Use {
+    Nothing,
+    Set,
+    Say,
+}
+
+fn use_of(whole: bool, line: &[u8]) -> Use {
     if !whole {
-        return true;
+        return Use::Nothing;
     }
     let first = word(line, 0);
     if same(first, b"#") {
         comment(line);
-        return true;
+        return Use::Nothing;
     }
     if same(first, b"certificate") {
         certificate(line);
-        return true;
+        return Use::Nothing;
     }
     if same(first, b"truncations") {
         truncated(line);
-        return true;
+        return Use::Nothing;
     }
-    false
+    if same(first, b"set") {
+        return Use::Set;
+    }
+    Use::Say
+}
+
+// The counters of a token.
+struct Counters {
+    pin: u8,
+    active: bool,
+    puk: u8,
 }
 
 // Another number, if it is to be set.
@@ -66,14 +82,20 @@ fn either(set: bool, n: u8, kept: u8) -> u8 {
 }
 
 // `set WHAT`, a state that no line of the desk leads to: no use of the PUK left, an inactive PIN, a counter over its limit.
+fn counters_set(what: &[u8], pin: u8, active: bool, puk: u8) -> Counters {
+    Counters {
+        pin: either(same(what, b"pin=4"), 4, pin),
+        active: active & !same(what, b"active=no"),
+        puk: either(same(what, b"puk=0"), 0, puk),
+    }
+}
+
 fn set(desk: Desk, what: &[u8]) -> Desk {
-    let token = desk.token;
-    let mut t = token.reset();
-    let puk = either(same(what, b"puk=0"), 0, t.puk);
-    let pin = either(same(what, b"pin=4"), 4, t.pin);
-    t.active = t.active & !same(what, b"active=no");
-    t.puk = puk;
-    t.pin = pin;
+    let mut t = desk.token.reset();
+    let c = counters_set(what, t.pin, t.active, t.puk);
+    t.pin = c.pin;
+    t.active = c.active;
+    t.puk = c.puk;
     Desk {
         held: true,
         token: t,
@@ -86,17 +108,14 @@ fn said(desk: Desk, line: &[u8]) -> Desk {
     let mut out = [0u8; ANSWER];
     let t = answer(desk, line, &mut out);
     answered(out, t.len);
-    let next = t.desk;
-    next
+    t.desk
 }
 
 // The desk once the line was told.
 pub fn told(desk: Desk, whole: bool, line: &[u8]) -> Desk {
-    if apart(whole, line) {
-        return desk;
+    match use_of(whole, line) {
+        Use::Nothing => desk,
+        Use::Set => set(desk, word(line, 1)),
+        Use::Say => said(desk, line),
     }
-    if same(word(line, 0), b"set") {
-        return set(desk, word(line, 1));
-    }
-    said(desk, line)
 }
