@@ -30,7 +30,7 @@ noPlace = record { start = 0; end = 0 }
 unfoldable pub unread : Reading
 unread = record { answer = Unfit; body = record { issuer = noName; certificate = noCertificate; key = noPlace; ext = noPlace; count = 0 } }
 
-abbrev pub read : Name → Place → Name → Rights → Day → Day → Place → ℕ → Reading
+abbrev pub read : (issuer : Name) (key : Place) (own : Name) → Rights → (first last : Day) (ext : Place) (n : ℕ) → Reading
 read issuer key own rights first last ext n =
     record {
       answer = Accepted;
@@ -42,7 +42,7 @@ abbrev pub Pending : Type 0
 Pending = ℕ → Reading
 
 -- the object at the start of s that ends at e, where s ends at `stop` of the whole
-abbrev pub placeOf : ℕ → List ℕ → ℕ → Place
+abbrev pub placeOf : (stop : ℕ) (s : List ℕ) (e : ℕ) → Place
 placeOf stop s e = record { start = stop - length s; end = stop - length s + e }
 
 -- nothing follows

@@ -6,5 +6,5 @@ use lib.Dec.{leb}
 use lib.ListN.{length}
 
 -- a piece that has room from the place `at` of a buffer on; nothing of one that has not
-unfoldable pub fitting : ℕ → List ℕ → List ℕ → List ℕ
+unfoldable pub fitting : (at : ℕ) (piece buffer : List ℕ) → List ℕ
 fitting at piece buffer = cond (leb (at + length piece) (length buffer)) piece []

@@ -23,5 +23,5 @@ unfoldable pub withKey : Certificate → ℕ → Certificate
 withKey p k = record { name = p .name; rights = p .rights; first = p .first; last = p .last; key = k }
 
 -- "Today becomes the first day if later, for .. terminals of a domestic official DV"
-abbrev pub todayAfter : Certificate → Certificate → Day → Day
+abbrev pub todayAfter : (dv terminal : Certificate) (today : Day) → Day
 todayAfter dv terminal today = cond (isOfficial (roleOf (dv .rights))) (later today (terminal .first)) today

@@ -22,7 +22,7 @@ classFits cla ins = eqb cla 0 || (eqb cla 0x10 && eqb ins 0x86)
 -- ---- INS, then P1-P2
 
 pub data Row : Type 0 where
-  row : ℕ → ℕ → Kind → Row
+  row : (ins p : ℕ) → Kind → Row
 
 -- INS, P1-P2 and the command, in the order of "Commands"; 86 is a run step or the chip key. Read, with its range of P1,
 -- stands below.
@@ -43,19 +43,19 @@ commands =
     ∷ []
 
 -- the row of this INS and P1-P2; with none, what the rows say of the INS so far
-abbrev pub listed : List Row → ℕ → ℕ → Lookup → Lookup
+abbrev pub listed : List Row → (ins p : ℕ) (sofar : Lookup) → Lookup
 listed [] ins p sofar = sofar
 listed (row i q k ∷ rows) ins p sofar = cond (eqb ins i) (cond (eqb p q) (For k) (listed rows ins p NoParams)) (listed rows ins p sofar)
 
 -- INS unknown, unless a row has it
-abbrev pub rowOf : ℕ → ℕ → Lookup
+abbrev pub rowOf : (ins p : ℕ) → Lookup
 rowOf ins p = listed commands ins p NoIns
 
 -- B0, P1 80+n, n 1..21, any P2
 abbrev pub readOf : ℕ → Lookup
 readOf p1 = cond (ltb p1 0x81) NoParams (cond (ltb 0x95 p1) NoParams (For (Read (p1 - 0x80))))
 
-unfoldable pub kindOf : ℕ → ℕ → ℕ → Lookup
+unfoldable pub kindOf : (ins p1 p2 : ℕ) → Lookup
 kindOf ins p1 p2 = cond (eqb ins 0xB0) (readOf p1) (rowOf ins (pairOf p1 p2))
 
 -- ---- presence of data and Le

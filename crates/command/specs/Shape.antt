@@ -16,13 +16,13 @@ use Rattle.form.specs.Form.{formOf}
 use Rattle.command.specs.Kind.{classFits, kindOf, present, wantsOf}
 
 -- INS; P1-P2; presence of data (from a up to e) and Le
-abbrev pub lookedUp : Lookup → ℕ → ℕ → ℕ → Le → Shape
+abbrev pub lookedUp : Lookup → (cla a e : ℕ) → Le → Shape
 lookedUp NoIns cla a e le = Faulty Instruction
 lookedUp NoParams cla a e le = Faulty Parameters
 lookedUp (For k) cla a e le = cond (present (wantsOf k) (ltb a e) le) (Command k (eqb cla 0x10) a e) (Faulty Presence)
 
 -- CLA
-unfoldable pub headedOf : ℕ → ℕ → ℕ → ℕ → ℕ → ℕ → Le → Shape
+unfoldable pub headedOf : (cla ins p1 p2 a e : ℕ) → Le → Shape
 headedOf cla ins p1 p2 a e le = cond (not (classFits cla ins)) (Faulty Class) (lookedUp (kindOf ins p1 p2) cla a e le)
 
 -- a form has the four header bytes

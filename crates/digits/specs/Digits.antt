@@ -29,12 +29,12 @@ isDigit base c = (among 0x30 0x39 c || among 0x41 0x46 c || among 0x61 0x66 c) &
 -- ---- printed
 
 -- the last k digits of n, highest first
-abbrev pub digits : ℕ → ℕ → ℕ → List ℕ
+abbrev pub digits : (base k n : ℕ) → List ℕ
 digits base zero n = []
 digits base (suc k) n = digits base k (n / base) ++ (glyph (n % base) ∷ [])
 
 -- how many digits n takes in base ten, as far as they are at most one more than `most`
-abbrev pub places : ℕ → ℕ → ℕ
+abbrev pub places : (most n : ℕ) → ℕ
 places zero n = 1
 places (suc most) n = cond (ltb n 10) 1 (suc (places most (n / 10)))
 
@@ -49,7 +49,7 @@ allDigits base [] = true
 allDigits base (c ∷ s) = isDigit base c && allDigits base s
 
 -- the number whose digits are n's and then these
-abbrev pub value : ℕ → ℕ → List ℕ → ℕ
+abbrev pub value : (base n : ℕ) → List ℕ → ℕ
 value base n [] = n
 value base n (c ∷ s) = value base (n * base + worth c) s
 
@@ -62,7 +62,7 @@ unfoldable pub grown : ℕ → Number
 grown n = cond (leb n largest) (Is n) NoNumber
 
 -- n's digits and then these, where they are digits
-unfoldable pub following : ℕ → ℕ → List ℕ → Number
+unfoldable pub following : (base n : ℕ) → List ℕ → Number
 following base n s = cond (allDigits base s) (grown (value base n s)) NoNumber
 
 -- a word of one digit or more

@@ -33,7 +33,7 @@ chosenBy p (These r) = chosenFor p r
 chosenBy p NoRights = Bad
 
 -- optional 7F4C
-unfoldable pub rightsThen : ℕ → List ℕ → ℕ → Ask
+unfoldable pub rightsThen : (p : ℕ) (s : List ℕ) → ℕ → Ask
 rightsThen p s = cond (eqb (length s) 0) (λ n. chosen p) (lastly Bad 0x7F4C true any s (λ c. chosenBy p (granted c)))
 
 -- 83 with one byte

@@ -14,7 +14,7 @@ use Rattle.words.specs.declared.Act.the-variants.{Personalises, Sends, Resets, 
 abbrev pub resetBy : Desk → List ℕ → Desk
 resetBy d line = cond (eqb (occurrences space line) 0) (resetDesk d) d
 
-abbrev pub Turned : Desk → List ℕ → Desk → Act → Type 0
+abbrev pub Turned : (d : Desk) (line : List ℕ) (e : Desk) → Act → Type 0
 -- ok, or 6A80 where the token refuses it, and then the token that was there stays
 Turned d line e Personalises = Made d e
 Turned d line e Resets = e ≡ resetBy d line

@@ -22,11 +22,11 @@ counted fail used c k = answered fail (within allowance (plus used c)) k
 abbrev pub any : List ℕ → Bool
 any c = true
 
-abbrev pub takenBy : {R : Type 0} → R → List ℕ → (List ℕ → Bool) → (List ℕ → ℕ → List ℕ → ℕ → R) → Found → ℕ → R
+abbrev pub takenBy : {R : Type 0} → (fail : R) (s : List ℕ) (fits : List ℕ → Bool) (k : List ℕ → ℕ → List ℕ → ℕ → R) → Found → ℕ → R
 takenBy fail s fits k Missing = λ n. fail
 takenBy fail s fits k (Content a e) = cond (fits (part a e s)) (k (part a e s) e (drop e s)) (λ n. fail)
 
 -- the object at the start of s, of this tag, nesting or not, with a content that fits: `k` goes on with its content, its end, and
 -- what follows it
-unfoldable pub taken : {R : Type 0} → R → ℕ → Bool → (List ℕ → Bool) → List ℕ → (List ℕ → ℕ → List ℕ → ℕ → R) → ℕ → R
+unfoldable pub taken : {R : Type 0} → (fail : R) (t : ℕ) (nests : Bool) (fits : List ℕ → Bool) (s : List ℕ) (k : List ℕ → ℕ → List ℕ → ℕ → R) → ℕ → R
 taken fail t nests fits s k = takenBy fail s fits k (foundIn t nests s)

@@ -50,7 +50,7 @@ lenOf [] = NoLen
 lenOf (a ∷ s) = cond (ltb a 128) (Len a 1) (cond (eqb a 0x81) (lengthAfter81 s) (cond (eqb a 0x82) (lengthAfter82 s) NoLen))
 
 -- tag, then length, then that many bytes of content, from start up to end
-abbrev pub placed : ℕ → Bool → ℕ → Extent → List ℕ → Head
+abbrev pub placed : (tag : ℕ) (nests : Bool) (n : ℕ) → Extent → List ℕ → Head
 placed tag nests n NoLen s = NoHeader
 placed tag nests n (Len len m) s = cond (leb (n + m + len) (length s)) (Header tag nests (n + m) (n + m + len)) NoHeader
 
@@ -64,7 +64,7 @@ headerOf s = labelled (tagOf s) s
 -- ---- the objects of a list
 
 -- the bytes from a up to e
-abbrev pub part : ℕ → ℕ → List ℕ → List ℕ
+abbrev pub part : (a e : ℕ) → List ℕ → List ℕ
 part a e s = take (e - a) (drop a s)
 
 -- an object that ends at e: itself and those in its content
@@ -87,7 +87,7 @@ thenRest rest s NoObject = Refused
 thenRest rest s (Object e m) = plus m (rest (drop e s))
 
 -- the objects of s, with d levels below this list allowed; k is fuel (`objects` has enough)
-unfoldable pub objectsOf : ℕ → ℕ → List ℕ → Count
+unfoldable pub objectsOf : (k d : ℕ) → List ℕ → Count
 objectsOf zero d s = Refused
 objectsOf (suc k) d s =
     cond (eqb (length s) 0) (Objects 0) (thenRest (objectsOf k d) s (objectBy (objectsOf k) d s (headerOf s)))

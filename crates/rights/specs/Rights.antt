@@ -56,13 +56,13 @@ abbrev pub hasRight : ℕ → Rights → Bool
 hasRight k r = hasBit k (r .0)
 
 -- the bitwise AND of the low k bits
-unfoldable pub andOf : ℕ → ℕ → ℕ → ℕ
+unfoldable pub andOf : (k a b : ℕ) → ℕ
 andOf zero a b = 0
 andOf (suc k) a b = andOf k (a / 2) (b / 2) * 2 + min (a % 2) (b % 2)
 
 -- "the bitwise AND of the low 38 bits of trust point, DV, terminal and confirmed rights"
-unfoldable pub common : Rights → Rights → Rights → Rights → Rights
-common a b c d = record { 0 = andOf low (andOf low (andOf low (a .0) (b .0)) (c .0)) (d .0) }
+unfoldable pub common : (trusted dv terminal confirmed : Rights) → Rights
+common trusted dv terminal confirmed = record { 0 = andOf low (andOf low (andOf low (trusted .0) (dv .0)) (terminal .0)) (confirmed .0) }
 
 -- "5 PIN management; 4 CAN allowed"
 abbrev pub pinManagement : ℕ

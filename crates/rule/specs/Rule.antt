@@ -140,7 +140,7 @@ endsDv f = ends f || certified false (λ n p role. isCvca role) f
 abbrev pub lastDv : List Seen → Option Dv
 lastDv r = latest (λ x past. dvIn (given (confirmed past)) x) endsDv r
 
-abbrev pub chainRights : Option Rights → Rights → Rights → Option ChainRights
+abbrev pub chainRights : (trusted : Option Rights) (dv terminal : Rights) → Option ChainRights
 chainRights none d t = none
 chainRights (some x) d t = some (record { trusted = x; dv = d; terminal = t })
 

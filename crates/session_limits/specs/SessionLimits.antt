@@ -36,7 +36,7 @@ dvFits p = certificateFits p && isDv (roleOf (p .rights))
 unfoldable pub terminalFits : Certificate → Bool
 terminalFits p = certificateFits p && isTerminal (roleOf (p .rights))
 
-abbrev pub reachFits : Reach → Certificate → Certificate → Bool
+abbrev pub reachFits : Reach → (dv terminal : Certificate) → Bool
 reachFits Empty dv terminal = true
 reachFits (ToDv trusted) dv terminal = trustedFits trusted && dvFits dv
 reachFits (ToTerminal trusted) dv terminal = trustedFits trusted && dvFits dv && terminalFits terminal

@@ -19,7 +19,7 @@ abbrev pub longest : ℕ
 longest = 140
 
 -- a to e, both included
-abbrev pub among : ℕ → ℕ → ℕ → Bool
+abbrev pub among : (a e b : ℕ) → Bool
 among a e b = leb a b && leb b e
 
 -- letters A-Z; bytes 20..7E or A0..FF; 0-9 or A-Z; 0..9; 30..39
@@ -35,12 +35,12 @@ allOf class [] = true
 allOf class (b ∷ s) = belongsTo class b && allOf class s
 
 -- the number whose digits in a base are n's and then these
-abbrev pub number : ℕ → ℕ → List ℕ → ℕ
+abbrev pub number : (base n : ℕ) → List ℕ → ℕ
 number base n [] = n
 number base n (b ∷ s) = number base (n * base + b) s
 
 -- a string written from an array's start, as far as there is room; the rest stays
-unfoldable pub copiedInto : List ℕ → List ℕ → List ℕ
+unfoldable pub copiedInto : (array c : List ℕ) → List ℕ
 copiedInto array c = take (length array) c ++ drop (length c) array
 
 -- a string in an array of so many places: cut there, and zeros after it

@@ -11,5 +11,5 @@ before b [] = 0
 before b (c ∷ s) = cond (eqb c b) 0 (suc (before b s))
 
 -- the place of the first b from a place on, or the end
-unfoldable pub placeOf : List ℕ → ℕ → ℕ → ℕ
+unfoldable pub placeOf : (s : List ℕ) (from b : ℕ) → ℕ
 placeOf s from b = cond (leb from (length s)) (from + before b (drop from s)) (length s)

@@ -7,7 +7,7 @@ use lib.ListN.{take, drop}
 use Rattle.text.specs.Find.{before}
 
 -- part k, counted from 0, of a string that is parted by b; empty where there is none
-abbrev pub partOf : ℕ → ℕ → List ℕ → List ℕ
+abbrev pub partOf : (b k : ℕ) → List ℕ → List ℕ
 partOf b zero s = take (before b s) s
 partOf b (suc k) s = partOf b k (drop (suc (before b s)) s)
 
