@@ -1,5 +1,8 @@
 // Names of certificate holders.
 ghost use mathlib.Core.Path.{_≡_};
+ghost use Prim.Native.Nat.{_≤_};
+ghost use lib.ListN.{take, drop};
+ghost use Rattle.strings.specs.Bytes.{eqbs};
 ghost use Rattle.names.specs.Names.{isName, nameOf, noName, nameFits, sameName};
 use strings::Class;
 use strings::all;
@@ -38,6 +41,22 @@ pub fn is_name(s: &[u8]) -> bool
     a & b & c
 }
 
+// Whether the eight places from one on hold the same bytes.
+fn eight_alike(p: [u8; 16], q: [u8; 16], at: usize) -> bool
+    requires { ⌜ at ≤ 8 ⌝ }
+    ensures { λ r. ⌜ r ≡ eqbs (take 8 (drop at p)) (take 8 (drop at q)) ⌝ }
+{
+    let mut equal = true;
+    let mut i = 0;
+    // it does not stop where two differ: without a branch the eight become one comparison
+    while i < 8 {
+        let j = at + i;
+        equal = equal & (p[j] == q[j]);
+        i += 1;
+    }
+    equal
+}
+
 impl Name {
     pub const MOST: usize = 16;
 
@@ -70,7 +89,17 @@ impl Name {
         let m = clip(self.len, Name::MOST);
         let q = other.bytes;
         let n = clip(other.len, Name::MOST);
-        same(&p[..m], &q[..n])
+        if m != n {
+            return false;
+        }
+        // no name is so short, but a stored value may be
+        if m < 8 {
+            return same(&p[..m], &q[..n]);
+        }
+        // the first eight bytes and the last eight: of at most sixteen none lies between
+        let first = eight_alike(p, q, 0);
+        let last = eight_alike(p, q, m - 8);
+        first & last
     }
 
     // Whether a stored name is one.
