@@ -41,7 +41,7 @@ pub fn is_name(s: &[u8]) -> bool
     a & b & c
 }
 
-// Whether the eight places from one on hold the same bytes.
+// Whether two arrays hold the same bytes in the eight places from this one on.
 fn eight_alike(p: [u8; 16], q: [u8; 16], at: usize) -> bool
     requires { ⌜ at ≤ 8 ⌝ }
     ensures { λ r. ⌜ r ≡ eqbs (take 8 (drop at p)) (take 8 (drop at q)) ⌝ }
