@@ -1,7 +1,8 @@
--- "Dates: six bytes 0..9, YYMMDD, 2000 to 2099, month 01..12, day 01..31." Assumes nothing: these are definitions.
+-- "Dates: six bytes 0..9, YYMMDD, 2000 to 2099, month 01..12", and by W-203: "A date is now valid only if that day exists, with leap
+-- years from 2000 to 2096 every fourth year." Assumes nothing: these are definitions.
 use Prim.Native.Nat.{ℕ, _/_, _%_}
 use mathlib.Core.List.{List}
-use mathlib.Core.Bool.{Bool, cond, _&&_}
+use mathlib.Core.Bool.{Bool, cond, _&&_, _||_}
 use lib.ListN.{length}
 use lib.Dec.{eqb, ltb}
 use Rattle.strings.specs.Bytes.{among, allOf, number}
@@ -10,9 +11,21 @@ use Rattle.days.specs.declared.Day.{Day}
 use Rattle.days.specs.declared.Dated.{Dated}
 use Rattle.days.specs.declared.Dated.the-variants.{On, NoDay}
 
--- a day is the number YYYYMMDD; which days there are is said here alone
+-- "leap years .. every fourth year", 2000 among them
+abbrev pub isLeap : (year : ℕ) → Bool
+isLeap y = eqb (y % 4) 0
+
+-- February has 28 days, in a leap year 29; April, June, September and November have 30; the other months 31
+abbrev pub daysIn : (year month : ℕ) → ℕ
+daysIn y m = cond (eqb m 2) (cond (isLeap y) 29 28) (cond (eqb m 4 || eqb m 6 || eqb m 9 || eqb m 11) 30 31)
+
+-- which days there are: said here alone
+abbrev pub dayExists : (year month day : ℕ) → Bool
+dayExists y m d = among 2000 2099 y && among 1 12 m && among 1 (daysIn y m) d
+
+-- a day is the number YYYYMMDD
 unfoldable pub isDay : ℕ → Bool
-isDay n = among 2000 2099 (n / 10000) && (among 1 12 (n / 100 % 100) && among 1 31 (n % 100))
+isDay n = dayExists (n / 10000) (n / 100 % 100) (n % 100)
 
 unfoldable pub dayFits : Day → Bool
 dayFits d = isDay (d .0)

@@ -3,7 +3,7 @@ ghost use mathlib.Core.Path.{_≡_};
 ghost use Prim.Native.Nat.{_+_, _*_, _≤_};
 ghost use lib.ListN.{length};
 ghost use Rattle.strings.specs.Bytes.{number};
-ghost use Rattle.days.specs.Days.{isDay, dayFits, dated, before, later};
+ghost use Rattle.days.specs.Days.{isLeap, daysIn, isDay, dayFits, dated, before, later};
 use strings::Class;
 use strings::all;
 
@@ -15,14 +15,38 @@ pub enum Dated {
     NoDay,
 }
 
-// Whether there is such a day. The calendar stands here alone.
+// Every fourth year, 2000 among them.
+fn is_leap(y: u32) -> bool
+    ensures { λ r. ⌜ r ≡ isLeap y ⌝ }
+{
+    y % 4 == 0
+}
+
+// How many days a month has. The calendar stands here alone.
+fn days_in(y: u32, m: u32) -> u32
+    ensures { λ r. ⌜ r ≡ daysIn y m ⌝ }
+{
+    match m {
+        2 => {
+            if is_leap(y) {
+                return 29;
+            }
+            28
+        }
+        4 | 6 | 9 | 11 => 30,
+        _ => 31,
+    }
+}
+
+// Whether there is such a day.
 fn is_day(n: u32) -> bool
     ensures { λ r. ⌜ r ≡ isDay n ⌝ }
 {
     let y = n / 10000;
     let m = n / 100 % 100;
     let d = n % 100;
-    ((2000 <= y) & (y <= 2099)) & (((1 <= m) & (m <= 12)) & ((1 <= d) & (d <= 31)))
+    let last = days_in(y, m);
+    ((2000 <= y) & (y <= 2099)) & ((1 <= m) & (m <= 12)) & ((1 <= d) & (d <= last))
 }
 
 // One digit more; the bound lets it fit in 32 bits.
