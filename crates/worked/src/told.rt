@@ -3,6 +3,7 @@ use super::certificates::certificate;
 use super::certificates::truncated;
 use super::show::number;
 use super::show::write;
+use days::Day;
 use desk_token::Desk;
 use feeding::rest;
 use lines::answer;
@@ -81,7 +82,7 @@ fn either(set: bool, n: u8, kept: u8) -> u8 {
     kept
 }
 
-// `set WHAT`, a state that no line of the desk leads to: no use of the PUK left, an inactive PIN, a counter over its limit.
+// The counters, with what is to be set.
 fn counters_set(what: &[u8], pin: u8, active: bool, puk: u8) -> Counters {
     Counters {
         pin: either(same(what, b"pin=4"), 4, pin),
@@ -90,12 +91,24 @@ fn counters_set(what: &[u8], pin: u8, active: bool, puk: u8) -> Counters {
     }
 }
 
+// 29 February 2023, if it is to be set.
+fn day_set(what: &[u8], kept: Day) -> Day {
+    if same(what, b"today=230229") {
+        return Day(20230229);
+    }
+    kept
+}
+
+// `set WHAT`, a state that no line of the desk leads to: no use of the PUK left, an inactive PIN, a counter over its limit, a day
+// that there is not.
 fn set(desk: Desk, what: &[u8]) -> Desk {
     let mut t = desk.token.reset();
     let c = counters_set(what, t.pin, t.active, t.puk);
     t.pin = c.pin;
     t.active = c.active;
     t.puk = c.puk;
+    let today = day_set(what, t.today);
+    t.today = today;
     Desk {
         held: true,
         token: t,
