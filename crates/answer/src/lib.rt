@@ -1,4 +1,6 @@
 // The reply to an event: how it is laid out, its word, and the names of the trust points that it may show.
+#![tactic(auto)]
+
 ghost use Rattle.std.specs.Prelude.{◌≡◌, length};
 ghost use Rattle.buffers.specs.Lay.{Written};
 ghost use Rattle.answer.specs.Answer.{step_tag, refused_layout, layout_of, reply_to};

@@ -1,4 +1,6 @@
 // The effective authorization of a session.
+#![tactic(auto)]
+
 ghost use Rattle.std.specs.Prelude.{◌≡◌};
 ghost use Rattle.authorization.specs.Authorization.{trusted_of, confirmed_of, shared_by, authorization};
 

@@ -1,4 +1,6 @@
 // The body of a certificate, 7F4E: one pass over its objects, each field taken as it passes.
+#![tactic(auto)]
+
 ghost use Rattle.std.specs.Prelude.{◌≡◌, ◌+◌, ◌≤◌, length};
 ghost use Rattle.objects.specs.Objects.{allowance, objects_at};
 ghost use Rattle.objects.specs.Chain.{counted};
@@ -13,7 +15,7 @@ use status::Intake;
 use strings::same;
 
 // Where an object stands, from its first byte up to its end; 0 and 0 where there is none.
-#[derive(Drop)]
+#[derive(Clone, Copy)]
 pub struct Place {
     pub start: usize,
     pub end: usize,
@@ -21,7 +23,7 @@ pub struct Place {
 
 // What a body states: its issuer, its holder's name, rights and days (the key number comes with the verdict), where its public
 // key and its extension stand, and how many objects it is.
-#[derive(Drop)]
+#[derive(Clone, Copy)]
 pub struct Body {
     pub issuer: Name,
     pub certificate: Certificate,
@@ -31,7 +33,7 @@ pub struct Body {
 }
 
 // A body that was read; `none()` values where it was not.
-#[derive(Drop)]
+#[derive(Clone, Copy)]
 pub struct Reading {
     pub answer: Intake,
     pub body: Body,

@@ -1,4 +1,6 @@
 // What a command brought besides what it asks.
+#![tactic(auto)]
+
 ghost use Rattle.std.specs.Prelude.{◌≡◌};
 ghost use Rattle.brought.specs.Brought.{brought_none, with_name, with_certificate, with_announced};
 
@@ -8,7 +10,7 @@ use names::Name;
 
 // The name in 83 or a certificate's issuer, the certificate, the key announced; each `none()` where the command brought none. In the
 // chip key's plan the key is the session's, to be compared.
-#[derive(Drop)]
+#[derive(Clone, Copy)]
 pub struct Brought {
     pub name: Name,
     pub certificate: Certificate,

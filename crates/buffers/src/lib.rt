@@ -1,4 +1,6 @@
 // Bytes written over a part of a lent buffer. What has no room is not written.
+#![tactic(auto)]
+
 ghost use Rattle.std.specs.Prelude.{◌≡◌, ◌+◌, ◌≤◌, leb, length};
 ghost use Rattle.buffers.specs.Lay.{Put};
 ghost use Rattle.buffers.specs.Room.{fitting};

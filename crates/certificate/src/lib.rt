@@ -1,4 +1,6 @@
 // A certificate as the token keeps it: a trust point, a DV or a terminal.
+#![tactic(auto)]
+
 ghost use Rattle.std.specs.Prelude.{◌≡◌};
 ghost use Rattle.certificate.specs.Certificate.{no_certificate, certificate_fits, expired, with_key, today_after};
 
@@ -6,7 +8,7 @@ use days::Day;
 use names::Name;
 use rights::Rights;
 
-#[derive(Drop)]
+#[derive(Clone, Copy)]
 pub struct Certificate {
     pub name: Name,
     pub rights: Rights,

@@ -1,4 +1,6 @@
 // Select issuer and verify certificate.
+#![tactic(auto)]
+
 ghost use Rattle.std.specs.Prelude.{◌≡◌};
 ghost use Rattle.certify.specs.Certify.{select_plan, repeats, late, issues, taken_event, issued_ending, under_plan, verify_plan};
 

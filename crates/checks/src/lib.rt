@@ -1,4 +1,6 @@
 // The checks of each command, certificates apart.
+#![tactic(auto)]
+
 ghost use Rattle.std.specs.Prelude.{◌≡◌};
 ghost use Rattle.plans.specs.Plans.{settled_by};
 ghost use Rattle.event.specs.declared.Event.TheVariants.{Refused};

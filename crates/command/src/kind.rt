@@ -5,7 +5,7 @@ ghost use Rattle.command.specs.Kind.{class_fits, row_of, kind_of, read_of, wants
 use form::Le;
 
 // General is General Authenticate: a run step or the chip key. Read has its group, 1..21.
-#[derive(Drop)]
+#[derive(Clone, Copy)]
 pub enum Kind {
     ChoosePassword,
     General,
@@ -23,7 +23,7 @@ pub enum Kind {
 }
 
 // What a header asks for, or why it asks for nothing.
-#[derive(Drop)]
+#[derive(Clone, Copy)]
 pub enum Lookup {
     For(Kind),
     NoIns,
@@ -31,7 +31,7 @@ pub enum Lookup {
 }
 
 // Which Le a command wants.
-#[derive(Drop)]
+#[derive(Clone, Copy)]
 pub enum LeRule {
     NoLe,
     Zero,
@@ -40,7 +40,7 @@ pub enum LeRule {
 }
 
 // Whether a command wants data, and its Le.
-#[derive(Drop)]
+#[derive(Clone, Copy)]
 pub enum Wants {
     Data(LeRule),
     NoData(LeRule),

@@ -1,4 +1,6 @@
 // A command's bytes: its form by ISO 7816-3, then CLA, INS, P1-P2, and the presence of data and Le.
+#![tactic(auto)]
+
 ghost use Rattle.std.specs.Prelude.{◌≡◌};
 ghost use Rattle.command.specs.Shape.{shape_of, headed_of};
 
@@ -8,7 +10,7 @@ use kind::{Kind, Lookup};
 pub mod kind;
 
 // What is wrong with a command before the token is looked at, in the order of the checks.
-#[derive(Drop)]
+#[derive(Clone, Copy)]
 pub enum Fault {
     Form,
     Class,
@@ -18,7 +20,7 @@ pub enum Fault {
 }
 
 // A command of a known kind: chained with CLA 10; its data stands from start up to end (none if they are equal).
-#[derive(Drop)]
+#[derive(Clone, Copy)]
 pub enum Shape {
     Command {
         kind: Kind,

@@ -1,4 +1,6 @@
 // Days.
+#![tactic(auto)]
+
 ghost use Rattle.std.specs.Prelude.{◌≡◌, ◌+◌, ◌*◌, ◌≤◌, length};
 ghost use Rattle.strings.specs.Bytes.{number};
 ghost use Rattle.days.specs.Days.{is_leap, days_in, is_day, day_fits, dated, before, later};
@@ -6,10 +8,10 @@ ghost use Rattle.days.specs.Days.{is_leap, days_in, is_day, day_fits, dated, bef
 use strings::{Class, all};
 
 // A day as the number YYYYMMDD.
-#[derive(Drop)]
+#[derive(Clone, Copy)]
 pub struct Day(pub u32);
 
-#[derive(Drop)]
+#[derive(Clone, Copy)]
 pub enum Dated {
     On(Day),
     NoDay,

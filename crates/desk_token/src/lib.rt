@@ -1,4 +1,6 @@
 // What lies on the desk, and all that is done with it.
+#![tactic(auto)]
+
 ghost use Rattle.std.specs.Prelude.{◌≡◌, length};
 ghost use Rattle.buffers.specs.Lay.{Written};
 ghost use Rattle.token.specs.Step.{exchange, step_of};
@@ -10,14 +12,14 @@ use token::state::{Personalised, Token};
 use verdicts::Answered;
 
 // A token, once a personalisation was accepted.
-#[derive(Drop)]
+#[derive(Clone, Copy)]
 pub struct Desk {
     pub held: bool,
     pub token: Token,
 }
 
 // The desk after a turn, and the length of its answer; 0 where nothing is answered.
-#[derive(Drop)]
+#[derive(Clone, Copy)]
 pub struct Turn {
     pub desk: Desk,
     pub len: usize,

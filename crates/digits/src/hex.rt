@@ -10,7 +10,7 @@ use buffers::{has_room, put};
 use strings::same;
 
 // The bytes that a word writes, by their number.
-#[derive(Drop)]
+#[derive(Clone, Copy)]
 pub enum Taken {
     Bytes(usize),
     NoBytes,

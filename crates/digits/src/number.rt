@@ -6,14 +6,14 @@ ghost use Rattle.digits.specs.Digits.{glyph as Digits·glyph, worth as Digits·w
 
 use buffers::has_room;
 
-#[derive(Drop)]
+#[derive(Clone, Copy)]
 pub enum Radix {
     Ten,
     Sixteen,
 }
 
 // The number that a word writes.
-#[derive(Drop)]
+#[derive(Clone, Copy)]
 pub enum Number {
     Is(u64),
     NoNumber,

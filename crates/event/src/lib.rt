@@ -1,4 +1,6 @@
 // Events, and the status word of each.
+#![tactic(auto)]
+
 ghost use Rattle.std.specs.Prelude.{◌≡◌};
 ghost use Rattle.event.specs.Event.{refusal_word, loss_word, chosen_word, word_of};
 
@@ -7,7 +9,7 @@ use run::{Choice, Step};
 use status::Word;
 
 // Why a command changes nothing.
-#[derive(Drop)]
+#[derive(Clone, Copy)]
 pub enum Refusal {
     Length,
     Lacking,
@@ -23,21 +25,21 @@ pub enum Refusal {
 }
 
 // How a session is lost.
-#[derive(Drop)]
+#[derive(Clone, Copy)]
 pub enum Loss {
     Unprotected,
     Broken,
 }
 
 // A certificate that may have issued another.
-#[derive(Drop)]
+#[derive(Clone, Copy)]
 pub enum Issuer {
     Newest,
     Previous,
     Dv,
 }
 
-#[derive(Drop)]
+#[derive(Clone, Copy)]
 pub enum Event {
     Refused(Refusal),
     Lost(Loss),

@@ -1,11 +1,14 @@
-// Standard input, a line after the other. A turn takes what was read up to a line feed, or reads more.
+// A program's input, a line after the other. A turn takes what was read up to a line feed, or reads more.
+#![tactic(auto)]
+
 ghost use Rattle.std.specs.Prelude.{◌≤◌, ◌-◌};
 
 use buffers::put;
+use std::io::Read;
 use strings::clip;
 use text::{find, front, past};
 
-#[derive(Drop)]
+#[derive(Clone, Copy)]
 pub struct Feed {
     // What was read and is not taken yet.
     pub at: usize,
@@ -41,12 +44,11 @@ fn less_one(turns: u64) -> u64
     turns - 1
 }
 
-// More input; where it has ended, a last line without a line feed counts.
-fn read(kept: usize, turns: u64, input: &mut [u8]) -> Feed
+// More input; where it has ended, as it has where a read fails, a last line without a line feed counts.
+fn read<R: Read>(kept: usize, turns: u64, reader: &mut R, input: &mut [u8]) -> Feed
     ensures { result.turns ≤ turns }
 {
-    let got = libc::read(0, &mut *input);
-    let end = io::count(got, input);
+    let end = reader.read(&mut *input).unwrap_or(0);
     if end == 0 {
         return Feed {
             at: 0,
@@ -100,13 +102,13 @@ impl Feed {
         self.kept
     }
 
-    pub fn turn(self, input: &mut [u8], line: &mut [u8]) -> Feed
+    pub fn turn<R: Read>(self, reader: &mut R, input: &mut [u8], line: &mut [u8]) -> Feed
         ensures { result.turns ≤ self.turns - 1 }
     {
         let kept = self.begun();
         let turns = less_one(self.turns);
         if self.end <= self.at {
-            return read(kept, turns, &mut *input);
+            return read(kept, turns, &mut *reader, &mut *input);
         }
         take(front(input, self.end), self.at, kept, turns, &mut *line)
     }

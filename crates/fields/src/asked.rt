@@ -5,14 +5,14 @@ use event::Refusal;
 use run::{Choice, Step};
 
 // What a 7C holds: the data of a run step, or of the chip key.
-#[derive(Drop)]
+#[derive(Clone, Copy)]
 pub enum Content {
     Step(Step),
     Chip,
 }
 
 // What a command of a known kind asks; Bad where its data are not what its kind wants.
-#[derive(Drop)]
+#[derive(Clone, Copy)]
 pub enum Ask {
     Bad,
     Choose(Choice),
@@ -30,14 +30,14 @@ pub enum Ask {
     Deactivate,
 }
 
-#[derive(Drop)]
+#[derive(Clone, Copy)]
 pub enum Request {
     Refused(Refusal),
     Asks { kind: Kind, chained: bool, ask: Ask },
 }
 
 // A request with what is brought with it.
-#[derive(Drop)]
+#[derive(Clone, Copy)]
 pub struct Asked {
     pub request: Request,
     pub brought: Brought,

@@ -8,7 +8,7 @@ use certificate::Certificate;
 use keys::Key;
 use names::Name;
 
-#[derive(Drop)]
+#[derive(Clone, Copy)]
 pub struct Given {
     pub ask: Ask,
     pub brought: Brought,

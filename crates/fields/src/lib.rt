@@ -1,4 +1,6 @@
 // What a command's bytes ask for, over the bytes alone.
+#![tactic(auto)]
+
 ghost use Rattle.std.specs.Prelude.{◌≡◌};
 ghost use Rattle.fields.specs.Asked.{asked_of, fault_of, data_of, refusing, asking};
 

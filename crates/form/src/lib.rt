@@ -1,4 +1,6 @@
 // The forms of ISO 7816-3.
+#![tactic(auto)]
+
 ghost use Rattle.std.specs.Prelude.{◌≡◌};
 ghost use Rattle.form.specs.Form.{form_of, data_then, extended_of, after_short, after_long, pair_of};
 
@@ -6,14 +8,14 @@ ghost use Rattle.form.specs.Form.{form_of, data_then, extended_of, after_short, 
 pub const COMMAND: usize = 1024;
 
 // The number that the field Le holds, one byte or two.
-#[derive(Drop)]
+#[derive(Clone, Copy)]
 pub enum Le {
     Absent,
     Number(u16),
 }
 
 // Where data stands, from start up to end (nowhere if both are 4), and Le.
-#[derive(Drop)]
+#[derive(Clone, Copy)]
 pub enum Form {
     Of { start: usize, end: usize, le: Le },
     Wrong,

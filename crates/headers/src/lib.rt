@@ -1,4 +1,6 @@
 // Writes the bytes of data objects: tag, length, content. What has no room is not written.
+#![tactic(auto)]
+
 ghost use Rattle.std.specs.Prelude.{◌≡◌, ◌≤◌, length};
 ghost use Rattle.buffers.specs.Lay.{Put};
 ghost use Rattle.buffers.specs.Room.{fitting};

@@ -1,11 +1,13 @@
 // The compressed key that a terminal announces.
+#![tactic(auto)]
+
 ghost use Rattle.std.specs.Prelude.{◌≡◌};
 ghost use Rattle.keys.specs.Keys.{no_key, key_of, key_is, key_fits, key_stands};
 
 use strings::{clip, copy, same};
 
 // A key's bytes; what stands after them is never judged. No key where the length is 0.
-#[derive(Drop)]
+#[derive(Clone, Copy)]
 pub struct Key {
     pub bytes: [u8; 66],
     pub len: usize,

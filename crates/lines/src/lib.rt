@@ -1,4 +1,6 @@
 // The desk's language: a line about a token, and its answer.
+#![tactic(auto)]
+
 ghost use Rattle.std.specs.Prelude.{◌≤◌, length, ◌≡◌};
 ghost use Rattle.words.specs.Verbs.{verb_of, act_of};
 ghost use Rattle.lines.specs.Turns.{reset_by, Turned};

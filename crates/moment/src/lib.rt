@@ -1,4 +1,6 @@
 // The moment of each command: over the session, the command's kind and its CLA, before any data is judged.
+#![tactic(auto)]
+
 ghost use Rattle.std.specs.Prelude.{◌≡◌};
 ghost use Rattle.moment.specs.Moment.{general_moment, moment_of};
 

@@ -1,4 +1,6 @@
 // Names of certificate holders.
+#![tactic(auto)]
+
 ghost use Rattle.std.specs.Prelude.{◌≡◌, ◌≤◌, take, drop};
 ghost use Rattle.strings.specs.Bytes.{eqbs};
 ghost use Rattle.names.specs.Names.{is_name, name_of, no_name, name_fits, same_name};
@@ -6,14 +8,14 @@ ghost use Rattle.names.specs.Names.{is_name, name_of, no_name, name_fits, same_n
 use strings::{Class, all, clip, copy, same};
 
 // A name's bytes; what stands after them is never judged.
-#[derive(Drop)]
+#[derive(Clone, Copy)]
 pub struct Name {
     pub bytes: [u8; 16],
     pub len: usize,
 }
 
 // The names that a reply shows: the first, and the second where there are both. Whose they are, `trust` says.
-#[derive(Drop)]
+#[derive(Clone, Copy)]
 pub struct Listed {
     pub first: Name,
     pub second: Name,

@@ -1,23 +1,25 @@
 // Reads nested BER-TLV data objects: the header of one, a list of them, and one with an expected tag.
+#![tactic(auto)]
+
 ghost use Rattle.std.specs.Prelude.{◌≡◌};
 ghost use Rattle.objects.specs.Objects.{tag_of, len_of, header_of, object, objects, within, within_one, objects_in, found_in};
 
 // The tag at the start of a slice: its one or two bytes as a number, whether objects are nested, and its size.
-#[derive(Drop)]
+#[derive(Clone, Copy)]
 pub enum Label {
     Tag { tag: u16, nests: bool, size: usize },
     NoTag,
 }
 
 // The length at the start of a slice, and its size.
-#[derive(Drop)]
+#[derive(Clone, Copy)]
 pub enum Extent {
     Len { len: usize, size: usize },
     NoLen,
 }
 
 // The header of an object whose content is all there, from start up to end.
-#[derive(Drop)]
+#[derive(Clone, Copy)]
 pub enum Head {
     Header {
         tag: u16,
@@ -29,21 +31,21 @@ pub enum Head {
 }
 
 // How many objects were read.
-#[derive(Drop)]
+#[derive(Clone, Copy)]
 pub enum Count {
     Objects(usize),
     Refused,
 }
 
 // The object at the start of a slice: its end, and how many objects it is, itself and those in it.
-#[derive(Drop)]
+#[derive(Clone, Copy)]
 pub enum One {
     Object { end: usize, count: usize },
     NoObject,
 }
 
 // The content of an object with an expected tag, from start up to end.
-#[derive(Drop)]
+#[derive(Clone, Copy)]
 pub enum Found {
     Content { start: usize, end: usize },
     Missing,

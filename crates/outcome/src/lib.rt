@@ -1,4 +1,6 @@
 // What a command comes to once its data is read: its own checks in their order, each with its refusal; and what a run step leads to.
+#![tactic(auto)]
+
 ghost use Rattle.std.specs.Prelude.{◌≡◌, ◌-◌};
 ghost use Rattle.outcome.specs.Outcome.{choose_event, passed_event, other_event, trial_of, grounded, unblock_event};
 

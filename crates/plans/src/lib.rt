@@ -1,4 +1,6 @@
 // The ways a plan ends, the jobs it may want, and what a note does to a session.
+#![tactic(auto)]
+
 ghost use Rattle.plans.specs.Numbers.{note_number, note_at, job_at};
 ghost use Rattle.std.specs.Prelude.{◌≡◌};
 ghost use Rattle.plans.specs.Plans.{settled_by, awaits_by, guard_of, ending_job, job_number};
@@ -8,7 +10,7 @@ use event::{Event, Loss};
 use run::Step;
 
 // How a command came.
-#[derive(Drop)]
+#[derive(Clone, Copy)]
 pub enum Note {
     Plain,
     Protected,
@@ -16,14 +18,14 @@ pub enum Note {
 }
 
 // The note of a number, if there is one.
-#[derive(Drop)]
+#[derive(Clone, Copy)]
 pub enum NoteOf {
     Is(Note),
     Unknown,
 }
 
 // What the crypto unit is asked to do.
-#[derive(Drop)]
+#[derive(Clone, Copy)]
 pub enum Job {
     Nothing,
     Step(Step),
@@ -35,28 +37,28 @@ pub enum Job {
 }
 
 // The job of a number, if there is one.
-#[derive(Drop)]
+#[derive(Clone, Copy)]
 pub enum JobOf {
     Is(Job),
     Unknown,
 }
 
 // An event, or a job with the event if it is passed and the event otherwise.
-#[derive(Drop)]
+#[derive(Clone, Copy)]
 pub enum Ending {
     Settled(Event),
     Awaits(Job, Event, Event),
 }
 
 // How a plan ends, with what was brought: the certificate that was read, the key that was announced or is to be compared.
-#[derive(Drop)]
+#[derive(Clone, Copy)]
 pub struct Plan {
     pub ending: Ending,
     pub brought: Brought,
 }
 
 // Whether a note lets a command pass.
-#[derive(Drop)]
+#[derive(Clone, Copy)]
 pub enum Guard {
     Passes,
     Drops(Loss),

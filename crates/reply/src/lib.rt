@@ -1,4 +1,6 @@
 // The bytes of a reply: the data of its layout, then the two bytes of its word.
+#![tactic(auto)]
+
 ghost use Rattle.std.specs.Prelude.{length};
 ghost use Rattle.buffers.specs.Lay.{Written};
 ghost use Rattle.reply.specs.Reply.{reply_of};
@@ -12,7 +14,7 @@ mod wire;
 pub const ROOM: usize = 258;
 
 // What a reply holds before its two word bytes.
-#[derive(Drop)]
+#[derive(Clone, Copy)]
 pub enum Layout {
     // Nothing, and no word either.
     Silent,

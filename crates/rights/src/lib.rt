@@ -1,4 +1,6 @@
 // Rights of 40 bits: the role in the top two, a right in each of the others.
+#![tactic(auto)]
+
 ghost use Rattle.std.specs.Prelude.{◌≡◌, ◌+◌, ◌*◌, ◌≤◌, length};
 ghost use Rattle.strings.specs.Bytes.{number};
 ghost use Rattle.rights.specs.Rights.{rights_fit, role_of, granted, common, has_right, group_mask, reads_group, pin_management, can_allowed};
@@ -6,10 +8,10 @@ ghost use Rattle.rights.specs.Rights.{rights_fit, role_of, granted, common, has_
 use roles::Role;
 use strings::same;
 
-#[derive(Drop)]
+#[derive(Clone, Copy)]
 pub struct Rights(pub u64);
 
-#[derive(Drop)]
+#[derive(Clone, Copy)]
 pub enum Granted {
     These(Rights),
     NoRights,

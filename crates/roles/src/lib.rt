@@ -1,8 +1,10 @@
 // The role of a certificate.
+#![tactic(auto)]
+
 ghost use Rattle.std.specs.Prelude.{◌≡◌};
 ghost use Rattle.roles.specs.Roles.{role_number, is_cvca, is_official, is_terminal, is_dv};
 
-#[derive(Drop)]
+#[derive(Clone, Copy)]
 pub enum Role {
     Cvca,
     OfficialDv,

@@ -1,4 +1,6 @@
 // A password run: the choice that opened it, and its step.
+#![tactic(auto)]
+
 ghost use Rattle.std.specs.Prelude.{◌≡◌};
 ghost use Rattle.run.specs.Run.{password_number, is_pin, is_can, is_puk, password_of, rights_named, step_number, is_last, next_step};
 
@@ -7,7 +9,7 @@ use rights::{Granted, Rights};
 // The tries of the PIN at the start, and the most there are.
 pub const TRIES: u8 = 3;
 
-#[derive(Drop)]
+#[derive(Clone, Copy)]
 pub enum Password {
     Mrz,
     Can,
@@ -16,7 +18,7 @@ pub enum Password {
 }
 
 // A password, and the rights that it names: only the CAN and the PIN may name any.
-#[derive(Drop)]
+#[derive(Clone, Copy)]
 pub enum Choice {
     Mrz,
     Can,
@@ -27,7 +29,7 @@ pub enum Choice {
 }
 
 // The four steps, by TR-03110's names: encrypted nonce, mapping, key agreement, confirmation.
-#[derive(Drop)]
+#[derive(Clone, Copy)]
 pub enum Step {
     Nonce,
     Map,

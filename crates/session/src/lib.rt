@@ -1,4 +1,6 @@
 // A session: who opened it, what was confirmed, its chain, how far it has come.
+#![tactic(auto)]
+
 ghost use Rattle.std.specs.Prelude.{◌≡◌};
 ghost use Rattle.session.specs.Session.{no_session, bare_session, rechosen, at_stage, announced_with, chained_to, selecting};
 ghost use Rattle.standing.specs.Standing.{no_chain};
@@ -11,7 +13,7 @@ use run::{Choice, Step};
 use standing::{Chain, Opened, Selected, Stage};
 
 // What a later store of contexts keeps: all of a session but the selection.
-#[derive(Drop)]
+#[derive(Clone, Copy)]
 pub struct Context {
     pub opened: Opened,
     pub confirmed: Granted,
@@ -20,7 +22,7 @@ pub struct Context {
     pub key: Key,
 }
 
-#[derive(Drop)]
+#[derive(Clone, Copy)]
 pub struct Session {
     pub context: Context,
     pub selected: Selected,

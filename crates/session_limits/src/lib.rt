@@ -1,4 +1,6 @@
 // The limits of a session's parts.
+#![tactic(auto)]
+
 ghost use Rattle.std.specs.Prelude.{◌≡◌};
 ghost use Rattle.session_limits.specs.SessionLimits.{granted_fits, trusted_fits, dv_fits, terminal_fits, chain_fits, run_fits, stage_fits, ground_fits, context_fits};
 

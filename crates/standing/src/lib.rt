@@ -1,4 +1,6 @@
 // What stands in a session: who opened it, its chain, the selection, the stage; and the questions about each.
+#![tactic(auto)]
+
 ghost use Rattle.std.specs.Prelude.{◌≡◌};
 ghost use Rattle.standing.specs.Standing.{is_open, opener_number, opened_by_pin, opened_by_can, opened_by_puk, has_rights, has_dv, has_terminal, is_selected, no_chain, rank};
 
@@ -8,35 +10,35 @@ use rights::{Granted, Rights};
 use run::{Choice, Password, Step};
 
 // Which password opened the session.
-#[derive(Drop)]
+#[derive(Clone, Copy)]
 pub enum Opened {
     Nobody,
     By(Password),
 }
 
 // How far a chain goes. A DV stands with the rights of the trust point that it was accepted under, a terminal only on its DV.
-#[derive(Drop)]
+#[derive(Clone, Copy)]
 pub enum Reach {
     Empty,
     ToDv(Rights),
     ToTerminal(Rights),
 }
 
-#[derive(Drop)]
+#[derive(Clone, Copy)]
 pub struct Chain {
     pub reach: Reach,
     pub dv: Certificate,
     pub terminal: Certificate,
 }
 
-#[derive(Drop)]
+#[derive(Clone, Copy)]
 pub enum Selected {
     NoIssuer,
     Of(Issuer),
 }
 
 // How far a session has come.
-#[derive(Drop)]
+#[derive(Clone, Copy)]
 pub enum Stage {
     Idle,
     Run(Choice, Step),

@@ -1,8 +1,10 @@
 // The status words of document 01's table.
+#![tactic(auto)]
+
 ghost use Rattle.std.specs.Prelude.{◌≡◌};
 ghost use Rattle.status.specs.Words.{word_number, word_at, intake_word};
 
-#[derive(Drop)]
+#[derive(Clone, Copy)]
 pub enum Word {
     Done,
     Tries(u8),
@@ -23,14 +25,14 @@ pub enum Word {
 }
 
 // The word of a number, if there is one.
-#[derive(Drop)]
+#[derive(Clone, Copy)]
 pub enum WordOf {
     Is(Word),
     Unknown,
 }
 
 // How a body or a personalisation was met.
-#[derive(Drop)]
+#[derive(Clone, Copy)]
 pub enum Intake {
     Accepted,
     Unfit,

@@ -1,4 +1,6 @@
 // Byte strings.
+#![tactic(auto)]
+
 ghost use Rattle.std.specs.Prelude.{◌≡◌, min, length};
 ghost use Rattle.strings.specs.Bytes.{eqbs, belongs_to, all_of, copied_into};
 
@@ -6,7 +8,7 @@ ghost use Rattle.strings.specs.Bytes.{eqbs, belongs_to, all_of, copied_into};
 pub const STRING: usize = 140;
 
 // What a byte of a field may be.
-#[derive(Drop)]
+#[derive(Clone, Copy)]
 pub enum Class {
     // A-Z; 20..7E or A0..FF; 0-9 or A-Z; 0..9; 30..39
     Letter,

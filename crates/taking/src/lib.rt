@@ -1,4 +1,6 @@
 // Objects that the data of several commands share, each found at the start of the bytes with a content that fits.
+#![tactic(auto)]
+
 ghost use Rattle.std.specs.Prelude.{◌≡◌, false};
 ghost use Rattle.names.specs.Names.{is_name};
 ghost use Rattle.taking.specs.Taking.{fitted, last_of, is_all, sized, holds};

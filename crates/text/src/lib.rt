@@ -1,4 +1,6 @@
 // Parts of a text: up to a byte, past a place, the first bytes.
+#![tactic(auto)]
+
 ghost use Rattle.std.specs.Prelude.{◌≡◌, ◌+◌, min, take};
 ghost use Rattle.text.specs.Find.{place_of};
 

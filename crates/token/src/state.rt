@@ -11,7 +11,7 @@ use session::Session;
 use status::Intake;
 use trust::Points;
 
-#[derive(Drop)]
+#[derive(Clone, Copy)]
 pub struct Token {
     pub pin: u8,
     pub active: bool,
@@ -22,7 +22,7 @@ pub struct Token {
 }
 
 // A personalisation's answer; `none` values where it was refused.
-#[derive(Drop)]
+#[derive(Clone, Copy)]
 pub struct Personalised {
     pub made: Intake,
     pub token: Token,

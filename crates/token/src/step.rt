@@ -7,7 +7,7 @@ use plans::Note;
 use verdicts::Answered;
 
 // What a step hands back: the token, and the reply's length.
-#[derive(Drop)]
+#[derive(Clone, Copy)]
 pub struct Outcome {
     pub token: Token,
     pub len: usize,

@@ -1,4 +1,6 @@
 // The trust points that a token holds: the newest, and perhaps a previous one.
+#![tactic(auto)]
+
 ghost use Rattle.std.specs.Prelude.{◌≡◌};
 ghost use Rattle.trust.specs.Trust.{trust_point_fits, one_point, two_points, points_fit, knows, found, issuer_of, holds, names_of, linked};
 
@@ -6,7 +8,7 @@ use certificate::Certificate;
 use event::Issuer;
 use names::{Listed, Name};
 
-#[derive(Drop)]
+#[derive(Clone, Copy)]
 pub struct Points {
     pub newest: Certificate,
     pub previous: Certificate,
@@ -14,7 +16,7 @@ pub struct Points {
 }
 
 // A trust point of some name, or none.
-#[derive(Drop)]
+#[derive(Clone, Copy)]
 pub enum Trusted {
     Is(Issuer),
     Unknown,

@@ -1,4 +1,6 @@
 // The verdict decides: one rule for every job.
+#![tactic(auto)]
+
 ghost use Rattle.std.specs.Prelude.{◌≡◌, length};
 ghost use Rattle.verdicts.specs.Numbers.{verdict_number, verdict_at};
 ghost use Rattle.verdicts.specs.Verdicts.{job_fits, matches, taken_in, ends_by, passes_by, judged_of, awaited_of, decided_of};
@@ -10,7 +12,7 @@ use plans::{Ending, Job, Plan};
 use strings::STRING;
 
 // The verdict on a job; the passed case carries the key number.
-#[derive(Drop)]
+#[derive(Clone, Copy)]
 pub enum Verdict {
     Passed(u64),
     Failed,
@@ -18,21 +20,21 @@ pub enum Verdict {
 }
 
 // The verdict of a number, if there is one.
-#[derive(Drop)]
+#[derive(Clone, Copy)]
 pub enum VerdictOf {
     Is(Verdict),
     Unknown,
 }
 
 // A crypto result, its two strings apart.
-#[derive(Drop)]
+#[derive(Clone, Copy)]
 pub struct Answered {
     pub job: Job,
     pub verdict: Verdict,
 }
 
 // What happened, and how many bytes of the first string are answered.
-#[derive(Drop)]
+#[derive(Clone, Copy)]
 pub struct Happened {
     pub event: Event,
     pub brought: Brought,

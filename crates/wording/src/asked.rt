@@ -9,7 +9,7 @@ use status::Word;
 use words::{count, word};
 
 // The note of the command asked about, and the command's length; not good where a word is not as it should be.
-#[derive(Drop)]
+#[derive(Clone, Copy)]
 pub struct Question {
     pub good: bool,
     pub note: Note,
@@ -17,7 +17,7 @@ pub struct Question {
 }
 
 // A data group that may be asked about, by the command that reads it; not good where a word is not as it should be.
-#[derive(Drop)]
+#[derive(Clone, Copy)]
 pub struct Group {
     pub good: bool,
     pub command: [u8; 5],

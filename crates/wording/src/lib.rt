@@ -1,4 +1,6 @@
 // The words of the desk's language: what a line states, and how its answer is put. It knows no token, only a token's parts.
+#![tactic(auto)]
+
 pub mod asked;
 pub mod body;
 pub mod expected;

@@ -11,14 +11,14 @@ use text::front;
 use words::{count, word};
 
 // A trust point that five words state; not good where a word is not one.
-#[derive(Drop)]
+#[derive(Clone, Copy)]
 struct StatedPoint {
     good: bool,
     certificate: Certificate,
 }
 
 // What a line states; not good where a word is not as it should be. The previous point counts where there are two.
-#[derive(Drop)]
+#[derive(Clone, Copy)]
 pub struct Personalisation {
     pub good: bool,
     pub two: bool,

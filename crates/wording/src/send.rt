@@ -11,20 +11,20 @@ use verdicts::{Answered, Verdict};
 use words::{count, word};
 
 // How a command came; not good where a word does not say so.
-#[derive(Drop)]
+#[derive(Clone, Copy)]
 pub(crate) struct Noted {
     pub(crate) good: bool,
     pub(crate) note: Note,
 }
 
-#[derive(Drop)]
+#[derive(Clone, Copy)]
 struct Judged {
     good: bool,
     verdict: Verdict,
 }
 
 // The job that a line names, or that it leaves it out: then it is the one that the token wants.
-#[derive(Drop)]
+#[derive(Clone, Copy)]
 pub struct Named {
     pub good: bool,
     pub left_out: bool,
@@ -32,7 +32,7 @@ pub struct Named {
 }
 
 // What a line's words state, with the lengths of its three strings; not good where a word is not as it should be.
-#[derive(Drop)]
+#[derive(Clone, Copy)]
 pub struct Sent {
     pub good: bool,
     pub note: Note,

@@ -5,14 +5,14 @@ use digits::number::{Number, Radix, read_number};
 use names::Name;
 
 // A number that a word states; not good where it states none.
-#[derive(Drop)]
+#[derive(Clone, Copy)]
 pub(crate) struct Stated {
     pub(crate) good: bool,
     pub(crate) n: u64,
 }
 
 // The length of a string that a word states.
-#[derive(Drop)]
+#[derive(Clone, Copy)]
 pub(crate) struct Strung {
     pub(crate) good: bool,
     pub(crate) len: usize,

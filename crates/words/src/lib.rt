@@ -1,4 +1,6 @@
 // The words of a line, and what a line is.
+#![tactic(auto)]
+
 ghost use Rattle.std.specs.Prelude.{◌≡◌, ◌≤◌, cond, eqb, length, drop};
 ghost use Rattle.words.specs.Words.{part_of, word_at, occurrences};
 ghost use Rattle.words.specs.Verbs.{about_token, if_held, act_of, named_by, verb_of};
@@ -10,7 +12,7 @@ use text::{find, past};
 pub const LINE: usize = 8192;
 
 // A line by its first word and whether there is a token that it is about.
-#[derive(Drop)]
+#[derive(Clone, Copy)]
 pub enum Verb {
     Silent,
     Overlong,
@@ -26,7 +28,7 @@ pub enum Verb {
 }
 
 // What a line does with the token: only three kinds of line change anything.
-#[derive(Drop)]
+#[derive(Clone, Copy)]
 pub enum Act {
     Personalises,
     Sends,

@@ -5,6 +5,8 @@ use super::show::{body, number, write};
 use digits::hex::{Taken, read_hex};
 use feeding::rest;
 use status::Intake;
+use std::io;
+use std::io::Write;
 use text::front;
 use wording::BYTES;
 use words::{part, word};
@@ -21,10 +23,10 @@ fn bytes(out: &mut [u8], hex: &[u8]) -> usize {
 }
 
 // `certificate NAME=HEX`
-pub fn certificate(line: &[u8]) {
+pub fn certificate<W: Write>(to: &mut W, line: &[u8]) -> io::Result<()> {
     let mut work = [0u8; BYTES];
     let n = bytes(&mut work, part(line, 1, b'='));
-    body(rest(part(line, 0, b'='), NAME), front(&work, n));
+    body(&mut *to, rest(part(line, 0, b'='), NAME), front(&work, n))
 }
 
 // One, if the bytes are refused.
@@ -51,12 +53,12 @@ fn truncations(s: &[u8]) -> usize {
 }
 
 // `truncations HEX`
-pub fn truncated(line: &[u8]) {
+pub fn truncated<W: Write>(to: &mut W, line: &[u8]) -> io::Result<()> {
     let mut work = [0u8; BYTES];
     let n = bytes(&mut work, word(line, 1));
-    write(b"truncations refused ");
-    number(truncations(front(&work, n)));
-    write(b" of ");
-    number(n);
-    write(b"\n");
+    write(&mut *to, b"truncations refused ")?;
+    number(&mut *to, truncations(front(&work, n)))?;
+    write(&mut *to, b" of ")?;
+    number(&mut *to, n)?;
+    write(&mut *to, b"\n")
 }

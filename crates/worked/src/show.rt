@@ -5,75 +5,77 @@ use digits::number::{Radix, put_digits};
 use names::Name;
 use rights::Rights;
 use status::{Intake, Word};
+use std::io;
+use std::io::Write;
 use text::front;
 
-pub fn write(s: &[u8]) {
-    io::write_all(1, s);
+pub fn write<W: Write>(to: &mut W, s: &[u8]) -> io::Result<()> {
+    to.write_all(s)
 }
 
-pub fn number(n: usize) {
-    io::print_decimal(1, n as u64);
+pub fn number<W: Write>(to: &mut W, n: usize) -> io::Result<()> {
+    write!(to, "{n}")
 }
 
 // The last so many digits, ten at most.
-fn digits(n: u64, radix: Radix, width: usize) {
+fn digits<W: Write>(to: &mut W, n: u64, radix: Radix, width: usize) -> io::Result<()> {
     let mut line = [0u8; 10];
     let end = put_digits(&mut line, 0, n, radix, width);
-    write(front(&line, end));
+    write(&mut *to, front(&line, end))
 }
 
 // YYYY-MM-DD.
-fn day(d: Day) {
+fn day<W: Write>(to: &mut W, d: Day) -> io::Result<()> {
     let n = d.0 as u64;
-    digits(n / 10000, Radix::Ten, 4);
-    write(b"-");
-    digits(n / 100, Radix::Ten, 2);
-    write(b"-");
-    digits(n, Radix::Ten, 2);
-    write(b" ");
+    digits(&mut *to, n / 10000, Radix::Ten, 4)?;
+    write(&mut *to, b"-")?;
+    digits(&mut *to, n / 100, Radix::Ten, 2)?;
+    write(&mut *to, b"-")?;
+    digits(&mut *to, n, Radix::Ten, 2)?;
+    write(&mut *to, b" ")
 }
 
 // Ten digits.
-fn rights(r: Rights) {
-    digits(r.0, Radix::Sixteen, 10);
-    write(b" ");
+fn rights<W: Write>(to: &mut W, r: Rights) -> io::Result<()> {
+    digits(&mut *to, r.0, Radix::Sixteen, 10)?;
+    write(&mut *to, b" ")
 }
 
 // Four digits.
-fn word(w: Word) {
-    digits(w.number() as u64, Radix::Sixteen, 4);
+fn word<W: Write>(to: &mut W, w: Word) -> io::Result<()> {
+    digits(&mut *to, w.number() as u64, Radix::Sixteen, 4)
 }
 
-fn name(n: Name) {
+fn name<W: Write>(to: &mut W, n: Name) -> io::Result<()> {
     let bytes = n.bytes;
-    write(front(&bytes, n.len));
-    write(b" ");
+    write(&mut *to, front(&bytes, n.len))?;
+    write(&mut *to, b" ")
 }
 
-fn fields(b: Body) {
+fn fields<W: Write>(to: &mut W, b: Body) -> io::Result<()> {
     let certificate = b.certificate;
-    write(b"read ");
-    name(b.issuer);
-    name(certificate.name);
-    rights(certificate.rights);
-    day(certificate.first);
-    day(certificate.last);
-    number(b.count);
+    write(&mut *to, b"read ")?;
+    name(&mut *to, b.issuer)?;
+    name(&mut *to, certificate.name)?;
+    rights(&mut *to, certificate.rights)?;
+    day(&mut *to, certificate.first)?;
+    day(&mut *to, certificate.last)?;
+    number(&mut *to, b.count)
 }
 
 // A line: what the bytes are called, and what was read of them, or 6A80.
-pub fn body(called: &[u8], s: &[u8]) {
-    write(called);
-    write(b" ");
+pub fn body<W: Write>(to: &mut W, called: &[u8], s: &[u8]) -> io::Result<()> {
+    write(&mut *to, called)?;
+    write(&mut *to, b" ")?;
     let r = bodies::read_body(s);
     let answer = r.answer;
     match answer {
         Intake::Accepted => {
-            fields(r.body);
+            fields(&mut *to, r.body)?;
         }
         Intake::Unfit => {
-            word(Word::Data);
+            word(&mut *to, Word::Data)?;
         }
     }
-    write(b"\n");
+    write(&mut *to, b"\n")
 }

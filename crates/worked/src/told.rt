@@ -5,6 +5,8 @@ use days::Day;
 use desk_token::Desk;
 use feeding::rest;
 use lines::answer;
+use std::io;
+use std::io::Write;
 use strings::same;
 use text::front;
 use wording::ANSWER;
@@ -13,61 +15,62 @@ use words::word;
 // As much of a line as is shown.
 const SHOWN: usize = 96;
 
-fn shown(line: &[u8]) {
-    write(b"> ");
-    write(front(line, SHOWN));
+fn shown<W: Write>(to: &mut W, line: &[u8]) -> io::Result<()> {
+    write(&mut *to, b"> ")?;
+    write(&mut *to, front(line, SHOWN))?;
     if SHOWN < line.len() {
-        write(b".. (");
-        number(line.len());
-        write(b" characters)");
+        write(&mut *to, b".. (")?;
+        number(&mut *to, line.len())?;
+        write(&mut *to, b" characters)")?;
     }
+    Ok(())
 }
 
-fn answered(out: [u8; ANSWER], len: usize) {
-    write(b"\n< ");
-    write(front(&out, len));
-    write(b"\n");
+fn answered<W: Write>(to: &mut W, out: [u8; ANSWER], len: usize) -> io::Result<()> {
+    write(&mut *to, b"\n< ")?;
+    write(&mut *to, front(&out, len))?;
+    write(&mut *to, b"\n")
 }
 
 // What a comment says.
-fn comment(line: &[u8]) {
-    write(rest(line, 2));
-    write(b"\n");
+fn comment<W: Write>(to: &mut W, line: &[u8]) -> io::Result<()> {
+    write(&mut *to, rest(line, 2))?;
+    write(&mut *to, b"\n")
 }
 
 // What is done with a line: nothing, where there is none yet or it was told without a token.
-#[derive(Drop)]
+#[derive(Clone, Copy)]
 enum Use {
     Nothing,
     Set,
     Say,
 }
 
-fn use_of(whole: bool, line: &[u8]) -> Use {
+fn use_of<W: Write>(to: &mut W, whole: bool, line: &[u8]) -> io::Result<Use> {
     if !whole {
-        return Use::Nothing;
+        return Ok(Use::Nothing);
     }
     let first = word(line, 0);
     if same(first, b"#") {
-        comment(line);
-        return Use::Nothing;
+        comment(&mut *to, line)?;
+        return Ok(Use::Nothing);
     }
     if same(first, b"certificate") {
-        certificate(line);
-        return Use::Nothing;
+        certificate(&mut *to, line)?;
+        return Ok(Use::Nothing);
     }
     if same(first, b"truncations") {
-        truncated(line);
-        return Use::Nothing;
+        truncated(&mut *to, line)?;
+        return Ok(Use::Nothing);
     }
     if same(first, b"set") {
-        return Use::Set;
+        return Ok(Use::Set);
     }
-    Use::Say
+    Ok(Use::Say)
 }
 
 // The counters of a token.
-#[derive(Drop)]
+#[derive(Clone, Copy)]
 struct Counters {
     pin: u8,
     active: bool,
@@ -116,19 +119,19 @@ fn set(desk: Desk, what: &[u8]) -> Desk {
 }
 
 // A line of the desk, and its answer.
-fn said(desk: Desk, line: &[u8]) -> Desk {
-    shown(line);
+fn said<W: Write>(to: &mut W, desk: Desk, line: &[u8]) -> io::Result<Desk> {
+    shown(&mut *to, line)?;
     let mut out = [0u8; ANSWER];
     let t = answer(desk, line, &mut out);
-    answered(out, t.len);
-    t.desk
+    answered(&mut *to, out, t.len)?;
+    Ok(t.desk)
 }
 
 // The desk once the line was told.
-pub fn told(desk: Desk, whole: bool, line: &[u8]) -> Desk {
-    match use_of(whole, line) {
-        Use::Nothing => desk,
-        Use::Set => set(desk, word(line, 1)),
-        Use::Say => said(desk, line),
+pub fn told<W: Write>(to: &mut W, desk: Desk, whole: bool, line: &[u8]) -> io::Result<Desk> {
+    match use_of(&mut *to, whole, line)? {
+        Use::Nothing => Ok(desk),
+        Use::Set => Ok(set(desk, word(line, 1))),
+        Use::Say => said(&mut *to, desk, line),
     }
 }

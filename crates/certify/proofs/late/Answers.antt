@@ -1,0 +1,7 @@
+-- `certify::late` meets its contract.
+use borrow.Author.Rules.{rules}
+use Rattle.certify.proofs.Certifies.{certifies}
+use Rattle.certify.proofs.late.Goals as goal
+
+pub returns : goal.returns
+returns c = first_of (search certifies depth 8, search rules)

@@ -1,5 +1,0 @@
-pub mod Bools
-pub mod Lists
-pub mod Pinned
-pub mod Rungs
-pub mod Tables

@@ -1,0 +1,8 @@
+-- `names::Name::fits` meets its contract.
+use borrow.Author.Rules.{rules}
+use Rattle.laws.proofs.Lists.{clip-in, clip-long}
+use Rattle.names.proofs.Contents.{contents}
+use Rattle.names.proofs.Name.fits.Goals as goal
+
+pub returns : goal.returns
+returns c = search (contents, clip-in, clip-long)

@@ -1,0 +1,13 @@
+-- `rights::rights_of` meets its contract.
+use borrow.Author.Rules.{rules}
+use Rattle.rights.proofs.Contents.{contents}
+use Rattle.rights.proofs.rights_of.Goals as goal
+
+pub returns-then-s-ne18 : goal.returns-then-s-ne18
+returns-then-s-ne18 c = first_of (search contents, search rules)
+
+pub returns-then-same : goal.returns-then-same
+returns-then-same c = first_of (search contents, search rules)
+
+pub returns-else-same : goal.returns-else-same
+returns-else-same c = first_of (search contents, search rules)

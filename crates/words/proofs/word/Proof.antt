@@ -1,7 +1,0 @@
--- `words::word` meets its contract. Assumes nothing.
-use borrow.Author.Rules.{rules}
-use Rattle.words.proofs.word.Statement.{statement}
-use Rattle.words.proofs.word.Tie as tie
-
-pub word-spec : {M : Type 1} → statement M
-word-spec = tie.close (tie.spec (λ c κs. search rules) (λ c. search rules))
