@@ -26,7 +26,7 @@ use Rattle.objects.proofs.Sizes.{found-sizes, part_length}
 use Rattle.objects.proofs.Counts.{kept-objects}
 use Rattle.objects.proofs.Fuel.{objects-none}
 use Rattle.objects.proofs.Chain.{rest, found-start, found-end, nest-counts, nest-refused, counted-plus}
-use Rattle.strings.specs.Bytes.{among, all_of, longest}
+use Rattle.strings.specs.Bytes.{all_of, longest}
 use Rattle.strings.specs.declared.Class.TheVariants.{Numeral}
 use Rattle.names.specs.Names.{is_name, name_of}
 use Rattle.keys.specs.Keys.{key_of}

@@ -1,7 +1,6 @@
 -- `certify::late` meets its contract.
-use borrow.Author.Rules.{rules}
 use Rattle.certify.proofs.Certifies.{certifies}
 use Rattle.certify.proofs.late.Goals as goal
 
 pub returns : goal.returns
-returns c = first_of (search certifies depth 8, search rules)
+returns c = search certifies depth 8

@@ -1,7 +1,6 @@
 -- `checks::choose` meets its contract.
-use borrow.Author.Rules.{rules}
 use Rattle.checks.proofs.Checks.{checks}
 use Rattle.checks.proofs.choose.Goals as goal
 
 pub returns : goal.returns
-returns c = first_of (search checks depth 8, search rules)
+returns c = search checks depth 8

@@ -1,7 +1,6 @@
 -- `days::is_day` meets its contract.
-use borrow.Author.Rules.{rules}
 use Rattle.days.proofs.Contents.{contents}
 use Rattle.days.proofs.is_day.Goals as goal
 
 pub returns : goal.returns
-returns c = first_of (search contents, search rules)
+returns c = search contents

@@ -1,13 +1,12 @@
 -- `form::after_short` meets its contract.
-use borrow.Author.Rules.{rules}
 use Rattle.form.proofs.Forms.{forms}
 use Rattle.form.proofs.after_short.Goals as goal
 
 pub returns-then-s-eq0 : goal.returns-then-s-eq0
-returns-then-s-eq0 c = first_of (search forms, search rules)
+returns-then-s-eq0 c = search forms
 
 pub returns-then-s-eq1 : goal.returns-then-s-eq1
-returns-then-s-eq1 c = first_of (search forms, search rules)
+returns-then-s-eq1 c = search forms
 
 pub returns : goal.returns
-returns c = first_of (search forms, search rules)
+returns c = search forms

@@ -1,16 +1,15 @@
 -- `form::extended` meets its contract.
-use borrow.Author.Rules.{rules}
 use Rattle.form.proofs.Forms.{forms}
 use Rattle.form.proofs.extended.Goals as goal
 
 pub returns-then-s-lt2 : goal.returns-then-s-lt2
-returns-then-s-lt2 c = first_of (search forms, search rules)
+returns-then-s-lt2 c = search forms
 
 pub returns-then-s-eq2 : goal.returns-then-s-eq2
-returns-then-s-eq2 c = first_of (search forms, search rules)
+returns-then-s-eq2 c = search forms
 
 pub returns-then-n-eq0 : goal.returns-then-n-eq0
-returns-then-n-eq0 c = first_of (search forms, search rules)
+returns-then-n-eq0 c = search forms
 
 pub returns : goal.returns
-returns c = first_of (search forms, search rules)
+returns c = search forms

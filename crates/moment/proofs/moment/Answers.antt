@@ -1,43 +1,42 @@
 -- `moment::moment` meets its contract.
-use borrow.Author.Rules.{rules}
 use Rattle.moment.proofs.Moments.{moments}
 use Rattle.moment.proofs.moment.Goals as goal
 
 pub returns-in-ChoosePassword : goal.returns-in-ChoosePassword
-returns-in-ChoosePassword c = first_of (search moments, search rules)
+returns-in-ChoosePassword c = search moments
 
 pub returns-in-General : goal.returns-in-General
-returns-in-General c = first_of (search moments, search rules)
+returns-in-General c = search moments
 
 pub returns-in-SelectIssuer : goal.returns-in-SelectIssuer
-returns-in-SelectIssuer c = first_of (search moments, search rules)
+returns-in-SelectIssuer c = search moments
 
 pub returns-in-VerifyCertificate : goal.returns-in-VerifyCertificate
-returns-in-VerifyCertificate c = first_of (search moments, search rules)
+returns-in-VerifyCertificate c = search moments
 
 pub returns-in-Announce : goal.returns-in-Announce
-returns-in-Announce c = first_of (search moments, search rules)
+returns-in-Announce c = search moments
 
 pub returns-in-Challenge : goal.returns-in-Challenge
-returns-in-Challenge c = first_of (search moments, search rules)
+returns-in-Challenge c = search moments
 
 pub returns-in-ProveTerminal : goal.returns-in-ProveTerminal
-returns-in-ProveTerminal c = first_of (search moments, search rules)
+returns-in-ProveTerminal c = search moments
 
 pub returns-in-ChooseChipKey : goal.returns-in-ChooseChipKey
-returns-in-ChooseChipKey c = first_of (search moments, search rules)
+returns-in-ChooseChipKey c = search moments
 
 pub returns-in-Read : goal.returns-in-Read
-returns-in-Read c = first_of (search moments, search rules)
+returns-in-Read c = search moments
 
 pub returns-in-ChangePin : goal.returns-in-ChangePin
-returns-in-ChangePin c = first_of (search moments, search rules)
+returns-in-ChangePin c = search moments
 
 pub returns-in-Unblock : goal.returns-in-Unblock
-returns-in-Unblock c = first_of (search moments, search rules)
+returns-in-Unblock c = search moments
 
 pub returns-in-Activate : goal.returns-in-Activate
-returns-in-Activate c = first_of (search moments, search rules)
+returns-in-Activate c = search moments
 
 pub returns-in-Deactivate : goal.returns-in-Deactivate
-returns-in-Deactivate c = first_of (search moments, search rules)
+returns-in-Deactivate c = search moments

@@ -1,5 +1,5 @@
 -- Each answer is the definition's: of the first object and the rest, or of the header and the content.
-use Rattle.std.proofs.Common.{◌≡◌, ℕ, Bool, true, false, ◌+◌, ◌-◌, ◌<◌, ◌≤◌, List, length, take, drop, arith, sym, ap, subst, ◌∙◌}
+use Rattle.std.proofs.Common.{◌≡◌, ℕ, Bool, true, ◌+◌, ◌-◌, ◌<◌, ◌≤◌, List, length, take, drop, arith, sym, ap, subst, ◌∙◌}
 use lib.Dec.{leb-zero}
 use Rattle.objects.specs.Objects.{header_of, object, objects, closed, plus, within, within_one}
 use Rattle.objects.specs.declared.Head.TheVariants.{Header, NoHeader}
@@ -8,7 +8,7 @@ use Rattle.objects.specs.declared.Count.TheVariants.{Objects, Refused}
 use Rattle.laws.proofs.Lists.{from}
 use Rattle.objects.proofs.Sizes.{HeadIn, OneIn, head-sizes, header-in, one-sizes, object-in}
 use Rattle.objects.proofs.Fuel.{objects-none}
-use Rattle.objects.proofs.Counts.{none_left, kept, kept-count, list-refused, list-is, flat-is, deep_is, nest-is}
+use Rattle.objects.proofs.Counts.{none_left, kept, list-refused, list-is, flat-is, deep_is, nest-is}
 use Rattle.objects.proofs.+read_list_read_object.Goals as goal
 
 -- ---- read_list: what is known of the first object, and the whole by the rest

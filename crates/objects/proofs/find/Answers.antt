@@ -1,5 +1,5 @@
 -- The header that was read is the definition's, and its tag and its kind are tested.
-use Rattle.std.proofs.Common.{◌≡◌, ℕ, Bool, true, false, List, sym}
+use Rattle.std.proofs.Common.{◌≡◌, ℕ, Bool, true, false, List}
 use borrow.Author.Tests.{eq-eqb, ne_eqb}
 use Rattle.objects.specs.Objects.{header_of, found_in, alike}
 use Rattle.objects.specs.declared.Head.TheVariants.{Header, NoHeader}

@@ -1,5 +1,5 @@
 -- What `tag_at` and `len_at` answered are the tag and the length of the definition, and both lie in s.
-use Rattle.std.proofs.Common.{◌≡◌, ℕ, Bool, ◌+◌, ◌-◌, ◌<◌, ◌≤◌, List, length, take, drop, arith, sym, subst, ◌∙◌}
+use Rattle.std.proofs.Common.{◌≡◌, ℕ, Bool, ◌+◌, ◌-◌, ◌<◌, ◌≤◌, List, length, take, drop, arith, sym, subst}
 use lib.ListN.{length-drop}
 use borrow.Author.Tests.{le-leb, lt-leb}
 use Rattle.objects.specs.declared.Label.TheVariants.{Tag, NoTag}

@@ -1,14 +1,6 @@
 -- `objects::len_at` meets its contract: at each return the bytes that were there and the tests that led there say which case of `len_of` holds.
 use borrow.Author.Rules.{rules}
-use Prim.Native.Nat.{ℕ, ◌<◌}
-use mathlib.Core.Path.{◌≡◌, refl}
-use mathlib.Core.List.{List, [], ◌∷◌}
-use native.Mathlib.Omega.{arith}
-use lib.ListN.{length, drop, length-drop}
-use borrow.Author.Tests.{eq-eqb, ne_eqb, le-leb, lt-leb, le-ltb, lt-ltb}
-use Rattle.objects.specs.declared.Extent.TheVariants.{NoLen}
 use Rattle.objects.specs.Objects.{len_of, length_after_81, length_after_82}
-use Rattle.laws.proofs.Lists.{none, one, two, just-one, three}
 use Rattle.objects.proofs.len_at.Goals as goal
 
 pub returns-then-s-eq0 : goal.returns-then-s-eq0

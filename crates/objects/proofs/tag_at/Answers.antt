@@ -1,11 +1,6 @@
 -- `objects::tag_at` meets its contract: at each return the bytes that were there and the tests that led there say which case of `tag_of` holds.
 use borrow.Author.Rules.{rules}
-use mathlib.Core.List.{List}
-use Prim.Native.Nat.{ℕ}
-use borrow.Author.Tests.{eq-eqb, ne_eqb, le-leb, lt-leb}
-use native.Mathlib.Omega.{arith}
 use Rattle.objects.specs.Objects.{tag_of, second_tag_byte}
-use Rattle.laws.proofs.Lists.{none, one, two, just-one}
 use Rattle.objects.proofs.tag_at.Goals as goal
 
 pub returns-then-s-eq0 : goal.returns-then-s-eq0

@@ -1,5 +1,4 @@
 -- `plans::job_of` meets its contract.
-use borrow.Author.Rules.{rules}
 use Rattle.laws.proofs.Rungs.{rungs}
 use Rattle.plans.specs.Numbers.{job_at}
 use Rattle.plans.proofs.Numbers.{job_read}
@@ -7,44 +6,44 @@ use Rattle.plans.proofs.job_of.Goals as goal
 
 pub returns-in-0 : goal.returns-in-0
 unfolding job_at
-returns-in-0 c = first_of (search job_read, search rungs depth 16, search rules)
+returns-in-0 c = search job_read
 
 pub returns-in-1 : goal.returns-in-1
 unfolding job_at
-returns-in-1 c = first_of (search job_read, search rungs depth 16, search rules)
+returns-in-1 c = search job_read
 
 pub returns-in-2 : goal.returns-in-2
 unfolding job_at
-returns-in-2 c = first_of (search job_read, search rungs depth 16, search rules)
+returns-in-2 c = search job_read
 
 pub returns-in-3 : goal.returns-in-3
 unfolding job_at
-returns-in-3 c = first_of (search job_read, search rungs depth 16, search rules)
+returns-in-3 c = search job_read
 
 pub returns-in-4 : goal.returns-in-4
 unfolding job_at
-returns-in-4 c = first_of (search job_read, search rungs depth 16, search rules)
+returns-in-4 c = search job_read
 
 pub returns-in-5 : goal.returns-in-5
 unfolding job_at
-returns-in-5 c = first_of (search job_read, search rungs depth 16, search rules)
+returns-in-5 c = search job_read
 
 pub returns-in-6 : goal.returns-in-6
 unfolding job_at
-returns-in-6 c = first_of (search job_read, search rungs depth 16, search rules)
+returns-in-6 c = search job_read
 
 pub returns-in-7 : goal.returns-in-7
 unfolding job_at
-returns-in-7 c = first_of (search job_read, search rungs depth 16, search rules)
+returns-in-7 c = search job_read
 
 pub returns-in-8 : goal.returns-in-8
 unfolding job_at
-returns-in-8 c = first_of (search job_read, search rungs depth 16, search rules)
+returns-in-8 c = search job_read
 
 pub returns-in-9 : goal.returns-in-9
 unfolding job_at
-returns-in-9 c = first_of (search job_read, search rungs depth 16, search rules)
+returns-in-9 c = search job_read
 
 pub returns-in_default : goal.returns-in_default
 unfolding job_at
-returns-in_default c = first_of (search job_read, search rungs depth 16, search rules)
+returns-in_default c = search rungs depth 16

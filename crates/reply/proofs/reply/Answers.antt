@@ -14,24 +14,24 @@ returns-then-first-gt-STRING c = too_long _ _ _ _ _ (search rules) (search rules
 
 pub returns-in-Silent : goal.returns-in-Silent
 unfolding data_of
-returns-in-Silent c = first_of (search arm depth 6, search bare depth 6, search rules)
+returns-in-Silent c = search arm depth 6
 
 pub returns-in-Bare : goal.returns-in-Bare
 unfolding data_of
-returns-in-Bare c = first_of (search arm depth 6, search bare depth 6, search rules)
+returns-in-Bare c = search bare depth 6
 
 pub returns-in-Flat : goal.returns-in-Flat
 unfolding data_of
-returns-in-Flat c = first_of (search arm depth 6, search bare depth 6, search rules)
+returns-in-Flat c = search arm depth 6
 
 pub returns-in-Nest : goal.returns-in-Nest
 unfolding data_of
-returns-in-Nest c = first_of (search arm depth 6, search bare depth 6, search rules)
+returns-in-Nest c = search arm depth 6
 
 pub returns-in-Confirmed : goal.returns-in-Confirmed
 unfolding data_of
-returns-in-Confirmed c = first_of (search arm depth 6, search bare depth 6, search rules)
+returns-in-Confirmed c = search arm depth 6
 
 pub returns-in-Pair : goal.returns-in-Pair
 unfolding data_of
-returns-in-Pair c = first_of (search arm depth 6, search bare depth 6, search rules)
+returns-in-Pair c = search arm depth 6

@@ -36,12 +36,12 @@ in_table n h l =
 
 pub returns-then-i-lt1 : goal.returns-then-i-lt1
 unfolding group_mask masks right
-returns-then-i-lt1 c = first_of (search (none_below, rules), search (none_above, rules), search (in_table, rules), search rules)
+returns-then-i-lt1 c = search (none_below, rules)
 
 pub returns-then-i-gt21 : goal.returns-then-i-gt21
 unfolding group_mask masks right
-returns-then-i-gt21 c = first_of (search (none_below, rules), search (none_above, rules), search (in_table, rules), search rules)
+returns-then-i-gt21 c = search (none_below, rules)
 
 pub returns : goal.returns
 unfolding group_mask masks right
-returns c = first_of (search (none_below, rules), search (none_above, rules), search (in_table, rules), search rules)
+returns c = search (none_below, rules)

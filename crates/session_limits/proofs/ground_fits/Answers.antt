@@ -1,7 +1,6 @@
 -- `session_limits::ground_fits` meets its contract.
-use borrow.Author.Rules.{rules}
 use Rattle.session_limits.proofs.Parts.{parts}
 use Rattle.session_limits.proofs.ground_fits.Goals as goal
 
 pub returns : goal.returns
-returns c = first_of (search parts depth 9, search rules)
+returns c = search parts depth 9

@@ -1,6 +1,6 @@
 -- The part after the next separator is the next part.
 use Rattle.std.proofs.Common.{arith, sym, ◌∙◌}
-use Rattle.words.proofs.Words.{part-next, part-last}
+use Rattle.words.proofs.Words.{part-next}
 use Rattle.words.proofs.start.Goals as goal
 
 pub loop-left-preserved : goal.loop-left-preserved

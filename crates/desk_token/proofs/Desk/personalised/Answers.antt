@@ -4,7 +4,7 @@ use Rattle.desk_token.proofs.Moving.{personalised-unfit, personalised-accepted}
 use Rattle.desk_token.proofs.Desk.personalised.Goals as goal
 
 pub returns-in-Unfit : goal.returns-in-Unfit
-returns-in-Unfit c = first_of (search personalised-unfit, search (rules, personalised-accepted), search rules)
+returns-in-Unfit c = search personalised-unfit
 
 pub returns : goal.returns
-returns c = first_of (search personalised-unfit, search (rules, personalised-accepted), search rules)
+returns c = search (rules, personalised-accepted)

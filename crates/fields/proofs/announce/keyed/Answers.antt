@@ -1,9 +1,8 @@
 -- `fields::announce::keyed` meets its contract.
-use borrow.Author.Rules.{rules}
 use Rattle.taking.proofs.Taken.{takes}
 use Rattle.keys.specs.Keys.{is_key}
 use Rattle.fields.proofs.announce.keyed.Goals as goal
 
 pub returns : goal.returns
 unfolding is_key
-returns c = first_of (search takes, search rules)
+returns c = search takes

@@ -1,17 +1,16 @@
 -- `fields::chip::reference` meets its contract.
-use borrow.Author.Rules.{rules}
 use Rattle.fields.proofs.Ways.{ladders}
 use Rattle.fields.specs.Chip.{reference_in}
 use Rattle.fields.proofs.chip.reference.Goals as goal
 
 pub returns-then-s-eq0 : goal.returns-then-s-eq0
 unfolding reference_in
-returns-then-s-eq0 c = first_of (search ladders depth 9, search rules)
+returns-then-s-eq0 c = search ladders depth 9
 
 pub returns-then-holds : goal.returns-then-holds
 unfolding reference_in
-returns-then-holds c = first_of (search ladders depth 9, search rules)
+returns-then-holds c = search ladders depth 9
 
 pub returns : goal.returns
 unfolding reference_in
-returns c = first_of (search ladders depth 9, search rules)
+returns c = search ladders depth 9

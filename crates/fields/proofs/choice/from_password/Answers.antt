@@ -1,25 +1,24 @@
 -- `fields::choice::from_password` meets its contract.
-use borrow.Author.Rules.{rules}
 use Rattle.fields.proofs.Ways.{chains}
 use Rattle.fields.specs.Choice.{password_then}
 use Rattle.fields.proofs.choice.from_password.Goals as goal
 
 pub returns-in_default : goal.returns-in_default
 unfolding password_then
-returns-in_default c = first_of (search chains, search rules)
+returns-in_default c = search chains
 
 pub slice_bounds-from_rights-count : goal.slice_bounds-from_rights-count
 unfolding password_then
-slice_bounds-from_rights-count c = first_of (search chains, search rules)
+slice_bounds-from_rights-count c = search chains
 
 pub slice_bounds-from_rights-start : goal.slice_bounds-from_rights-start
 unfolding password_then
-slice_bounds-from_rights-start c = first_of (search chains, search rules)
+slice_bounds-from_rights-start c = search chains
 
 pub bounds-s-start : goal.bounds-s-start
 unfolding password_then
-bounds-s-start c = first_of (search chains, search rules)
+bounds-s-start c = search chains
 
 pub returns : goal.returns
 unfolding password_then
-returns c = first_of (search chains, search rules)
+returns c = search chains

@@ -1,5 +1,4 @@
 -- `keys::Key::is` meets its contract.
-use borrow.Author.Rules.{rules}
 use Rattle.laws.proofs.Lists.{clip-in, clip-long}
 use Rattle.keys.proofs.Contents.{contents}
 use Rattle.keys.proofs.Key.is.Goals as goal

@@ -1,7 +1,6 @@
 -- `lines::send::send` meets its contract.
-use borrow.Author.Rules.{rules}
 use Rattle.lines.proofs.Turning.{unstepped-there}
 use Rattle.lines.proofs.send.send.Goals as goal
 
 pub returns-then-not-x : goal.returns-then-not-x
-returns-then-not-x c = first_of (search unstepped-there, search rules)
+returns-then-not-x c = search unstepped-there

@@ -1,5 +1,4 @@
 -- `names::Name::fits` meets its contract.
-use borrow.Author.Rules.{rules}
 use Rattle.laws.proofs.Lists.{clip-in, clip-long}
 use Rattle.names.proofs.Contents.{contents}
 use Rattle.names.proofs.Name.fits.Goals as goal

@@ -1,7 +1,6 @@
 -- `plans::Plan::awaits` meets its contract.
-use borrow.Author.Rules.{rules}
 use Rattle.plans.proofs.Endings.{endings}
 use Rattle.plans.proofs.Plan.awaits.Goals as goal
 
 pub returns : goal.returns
-returns c = first_of (search endings, search rules)
+returns c = search endings

@@ -1,10 +1,9 @@
 -- `reply::wire::nest` meets its contract.
-use borrow.Author.Rules.{rules}
 use Rattle.reply.proofs.Pieces.{size_fits, nest-said}
 use Rattle.reply.proofs.wire.nest.Goals as goal
 
 pub overflow_cast-n : goal.overflow_cast-n
-overflow_cast-n c = first_of (search size_fits, search nest-said depth 6, search rules)
+overflow_cast-n c = search size_fits
 
 pub returns : goal.returns
-returns c = first_of (search size_fits, search nest-said depth 6, search rules)
+returns c = search nest-said depth 6

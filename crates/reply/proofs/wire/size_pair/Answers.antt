@@ -1,5 +1,4 @@
 -- `reply::wire::size_pair` meets its contract.
-use borrow.Author.Rules.{rules}
 use Rattle.reply.proofs.Pieces.{pair-most, pair_fits, pair_size}
 use Rattle.reply.proofs.wire.size_pair.Goals as goal
 

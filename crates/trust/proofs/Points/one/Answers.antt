@@ -1,7 +1,6 @@
 -- `trust::Points::one` meets its contract.
-use borrow.Author.Rules.{rules}
 use Rattle.trust.proofs.TrustPoints.{trust-points}
 use Rattle.trust.proofs.Points.one.Goals as goal
 
 pub returns : goal.returns
-returns c = first_of (search trust-points, search rules)
+returns c = search trust-points

@@ -1,7 +1,6 @@
 -- `fields::given::Given::verify` meets its contract.
-use borrow.Author.Rules.{rules}
 use Rattle.fields.proofs.Ways.{gives}
 use Rattle.fields.proofs.given.Given.verify.Goals as goal
 
 pub returns : goal.returns
-returns c = first_of (search gives, search rules)
+returns c = search gives

@@ -1,7 +1,6 @@
 -- `token::state::Token::choice_taken` meets its contract.
-use borrow.Author.Rules.{rules}
 use Rattle.token.proofs.Changes.{changes}
 use Rattle.token.proofs.state.Token.choice_taken.Goals as goal
 
 pub returns : goal.returns
-returns c = first_of (search changes depth 8, search rules)
+returns c = search changes depth 8

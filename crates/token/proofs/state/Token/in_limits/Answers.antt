@@ -1,7 +1,6 @@
 -- `token::state::Token::in_limits` meets its contract.
-use borrow.Author.Rules.{rules}
 use Rattle.token.proofs.States.{states}
 use Rattle.token.proofs.state.Token.in_limits.Goals as goal
 
 pub returns : goal.returns
-returns c = first_of (search states depth 9, search rules)
+returns c = search states depth 9

@@ -1,7 +1,6 @@
 -- `token::state::Token::reset` meets its contract.
-use borrow.Author.Rules.{rules}
 use Rattle.token.proofs.States.{states}
 use Rattle.token.proofs.state.Token.reset.Goals as goal
 
 pub returns : goal.returns
-returns c = first_of (search states depth 7, search rules)
+returns c = search states depth 7
