@@ -42,7 +42,7 @@ other_event c p pin = cond (is_last p) (trial_of c pin) RunClosed
 -- ---- Read, activate, deactivate: "With no such ground: 6982"
 
 abbrev pub grounded : Bool → Event → Event
-grounded ground done = cond ground done (Refused Lacking)
+grounded has_ground done = cond has_ground done (Refused Lacking)
 
 -- ---- Unblock
 

@@ -73,10 +73,10 @@ pub fn otherwise(choice: Choice, step: Step, pin: u8) -> Event
 }
 
 // What is done on a ground, and refused without one.
-pub fn on(ground: bool, done: Event) -> Event
-    ensures { result ≡ grounded ground done }
+pub fn on(has_ground: bool, done: Event) -> Event
+    ensures { result ≡ grounded has_ground done }
 {
-    if ground {
+    if has_ground {
         return done;
     }
     Event::Refused(Refusal::Lacking)

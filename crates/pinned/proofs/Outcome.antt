@@ -20,8 +20,8 @@ less-one-pinned n = pinned _
 pub otherwise-pinned : (c : Choice) (p : Step) (pin : ℕ) → Pinned Event (other_event c p pin)
 otherwise-pinned c p pin = pinned _
 
-pub on-pinned : (ground : Bool) (done : Event) → Pinned Event (grounded ground done)
-on-pinned ground done = pinned _
+pub on-pinned : (has_ground : Bool) (done : Event) → Pinned Event (grounded has_ground done)
+on-pinned has_ground done = pinned _
 
 pub unblock-pinned : (opened : Opened) (right : Bool) (pin puk : ℕ) → Pinned Event (unblock_event opened right pin puk)
 unblock-pinned opened right pin puk = pinned _
