@@ -1,6 +1,6 @@
 -- A record: the personalisation and what came after it, each entry on the state that the last one left.
 -- Assumes nothing: these are definitions.
-use Rattle.std.specs.Prelude.{ℕ, List, [], ◌∷◌}
+use Rattle.std.specs.Prelude.{List, [], ◌∷◌}
 use Rattle.status.specs.declared.Word.{Word}
 use Rattle.token.specs.declared.state.Token.{Token}
 use Rattle.token.specs.State.{reset_of}
