@@ -8,8 +8,10 @@ ghost use Rattle.answer.specs.Answer.{step_tag, refused_layout, layout_of, reply
 use event::{Event, Refusal};
 use reply::Layout;
 use run::Step;
+use status::Word;
 use trust::Points;
 
+// The tag of what a step answers, which is no number of the step.
 fn step_tag(step: Step) -> u16
     ensures { result ≡ step_tag step }
 {
@@ -26,19 +28,20 @@ fn refused_layout(w: Refusal) -> Layout
 {
     match w {
         Refusal::Outside => Layout::Silent,
-        Refusal::Length => Layout::Bare,
-        Refusal::Lacking => Layout::Bare,
-        Refusal::Blocked => Layout::Bare,
-        Refusal::Unusable => Layout::Bare,
-        Refusal::Moment => Layout::Bare,
-        Refusal::Data => Layout::Bare,
-        Refusal::Parameters => Layout::Bare,
-        Refusal::NotFound => Layout::Bare,
-        Refusal::Instruction => Layout::Bare,
-        Refusal::Class => Layout::Bare,
+        Refusal::Length
+        | Refusal::Lacking
+        | Refusal::Blocked
+        | Refusal::Unusable
+        | Refusal::Moment
+        | Refusal::Data
+        | Refusal::Parameters
+        | Refusal::NotFound
+        | Refusal::Instruction
+        | Refusal::Class => Layout::Bare,
     }
 }
 
+#[tactic(auto, unfolding(crate::specs::Answer::layout_of))]
 fn layout_of(e: Event) -> Layout
     ensures { result ≡ layout_of e }
 {
@@ -48,35 +51,34 @@ fn layout_of(e: Event) -> Layout
         Event::Opened(_) => Layout::Confirmed,
         Event::Challenged => Layout::Flat,
         Event::Authenticated => Layout::Pair,
-        Event::Lost(_) => Layout::Bare,
-        Event::Chosen(_, _) => Layout::Bare,
-        Event::RunClosed => Layout::Bare,
-        Event::TrialLost(_) => Layout::Bare,
-        Event::Selected(_) => Layout::Bare,
-        Event::LinkTaken => Layout::Bare,
-        Event::DvTaken(_) => Layout::Bare,
-        Event::TerminalTaken => Layout::Bare,
-        Event::Announced => Layout::Bare,
-        Event::Proven => Layout::Bare,
-        Event::ProofLost => Layout::Bare,
-        Event::ChipKeyChosen => Layout::Bare,
-        Event::ChipLost => Layout::Bare,
-        Event::ReadAllowed => Layout::Bare,
-        Event::PinChanged => Layout::Bare,
-        Event::UnblockedByPuk => Layout::Bare,
-        Event::UnblockedByRight => Layout::Bare,
-        Event::Activated => Layout::Bare,
-        Event::Deactivated => Layout::Bare,
-        Event::NotPassed => Layout::Bare,
+        Event::Lost(_)
+        | Event::Chosen(_, _)
+        | Event::RunClosed
+        | Event::TrialLost(_)
+        | Event::Selected(_)
+        | Event::LinkTaken
+        | Event::DvTaken(_)
+        | Event::TerminalTaken
+        | Event::Announced
+        | Event::Proven
+        | Event::ProofLost
+        | Event::ChipKeyChosen
+        | Event::ChipLost
+        | Event::ReadAllowed
+        | Event::PinChanged
+        | Event::UnblockedByPuk
+        | Event::UnblockedByRight
+        | Event::Activated
+        | Event::Deactivated
+        | Event::NotPassed => Layout::Bare,
     }
 }
 
 // The reply to an event, with the trust points held after it.
+#[tactic(auto, unfolding(crate::specs::Answer::reply_to))]
 pub fn answer(points: Points, e: Event, first: &[u8], out: &mut [u8]) -> usize
     ensures { Written (reply_to points e first.now (length out.old)) out.old out.new result }
 {
-    let held = points.names();
-    let layout = layout_of(e);
-    let word = e.word().number();
-    reply::reply(&mut *out, layout, word, first, held)
+    let word = u16::from(Word::from(e));
+    reply::reply(out, layout_of(e), word, first, points.names())
 }

@@ -1,29 +1,17 @@
 -- The effective authorization, over plain values, and its bits. Assumes nothing.
-use borrow.Author.Rules.{rules}
+use Rattle.std.specs.Prelude.{Option}
 use Prim.Native.Nat.{ℕ, ◌^◌, ◌<◌}
 use native.Mathlib.Nat.{zero-div}
 use mathlib.Core.Bool.{Bool, true, false, cond, not, ◌&&◌}
-use mathlib.Core.Path.{◌≡◌, refl, sym, ap, ◌∙◌}
+use mathlib.Core.Path.{◌≡◌, refl}
 use borrow.Author.Tests.{eq-eqb, ne_eqb}
-use Rattle.rights.specs.Rights.{low, common, has_right, can_allowed}
+use Rattle.rights.specs.Rights.{low, has_right, can_allowed}
 use Rattle.rights.proofs.Bits.{common-right}
 use Rattle.rights.specs.declared.Rights.{Rights}
-use Rattle.rights.specs.declared.Granted.{Granted}
-use Rattle.standing.specs.declared.Reach.{Reach}
 use Rattle.standing.specs.declared.Chain.{Chain}
 use Rattle.session.specs.declared.Context.{Context}
 use Rattle.standing.specs.Standing.{opened_by_can, rank, is_authenticated}
 use Rattle.authorization.specs.Authorization.{nothing, trusted_of, confirmed_of, shared_by, authorization}
-
-pub trusted-arm : (x d : Reach) (r : Rights) → x ≡ d → r ≡ trusted_of d → r ≡ trusted_of x
-trusted-arm x d r e z = z ∙ ap trusted_of (sym e)
-
-pub confirmed-arm : (x d : Granted) (r : Rights) → x ≡ d → r ≡ confirmed_of d → r ≡ confirmed_of x
-confirmed-arm x d r e z = z ∙ ap confirmed_of (sym e)
-
-pub shared-is : (c : Chain) (g : Granted) (a d r : Rights) → a ≡ trusted_of c.reach → d ≡ confirmed_of g → r ≡ common a c.dv.rights c.terminal.rights d → r ≡ shared_by c g
-unfolding shared_by
-shared-is c g a d r e f h = h ∙ rw (e, f)
 
 module _ (c : Context) (k : ℕ) (e : k ≡ rank c.stage) where
   pub not_yet : (k ≡ 6 → ⊥) → nothing ≡ authorization c
@@ -35,14 +23,8 @@ module _ (c : Context) (k : ℕ) (e : k ≡ rank c.stage) where
     unfolding authorization
     not-by-can q = rw (← e, eq-eqb k 6 h, ← f, ← i, ← g, q)
 
-    pub shared-all : n && not a ≡ false → s ≡ authorization c
-    unfolding authorization
-    shared-all q = rw (← e, eq-eqb k 6 h, ← f, ← i, ← g, q)
-
-pub ruleset authorizes = (trusted-arm, confirmed-arm, shared-is, not_yet, not-by-can, shared-all, rules)
-
 -- bit k of what is shared is the bit in all four
-pub shared-right : (k : ℕ) (c : Chain) (g : Granted) → k < low
+pub shared-right : (k : ℕ) (c : Chain) (g : Option Rights) → k < low
     → has_right k (shared_by c g) ≡ has_right k (trusted_of c.reach) && has_right k c.dv.rights && has_right k c.terminal.rights && has_right k (confirmed_of g)
 unfolding shared_by
 shared-right k c g h = common-right k (trusted_of c.reach) c.dv.rights c.terminal.rights (confirmed_of g) h

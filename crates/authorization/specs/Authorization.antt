@@ -1,10 +1,8 @@
 -- "Effective authorization is the bitwise AND of the low 38 bits of trust point, DV, terminal and confirmed rights, once
 -- authenticated; zero otherwise, and zero if the CAN opened and bit 4 is missing from it." Assumes nothing: these are definitions.
-use Rattle.std.specs.Prelude.{cond, not, ◌&&◌}
+use Rattle.std.specs.Prelude.{cond, not, ◌&&◌, Option, Some, None}
 use Rattle.rights.specs.Rights.{common, has_right, can_allowed}
 use Rattle.rights.specs.declared.Rights.{Rights}
-use Rattle.rights.specs.declared.Granted.{Granted}
-use Rattle.rights.specs.declared.Granted.TheVariants.{These, NoRights}
 use Rattle.standing.specs.declared.Reach.{Reach}
 use Rattle.standing.specs.declared.Reach.TheVariants.{Empty, ToDv, ToTerminal}
 use Rattle.standing.specs.declared.Chain.{Chain}
@@ -19,11 +17,11 @@ trusted_of Empty = nothing
 trusted_of (ToDv r) = r
 trusted_of (ToTerminal r) = r
 
-abbrev pub confirmed_of : Granted → Rights
-confirmed_of (These r) = r
-confirmed_of NoRights = nothing
+abbrev pub confirmed_of : Option Rights → Rights
+confirmed_of (Some r) = r
+confirmed_of None = nothing
 
-unfoldable pub shared_by : Chain → Granted → Rights
+unfoldable pub shared_by : Chain → Option Rights → Rights
 shared_by c g = common (trusted_of c.reach) c.dv.rights c.terminal.rights (confirmed_of g)
 
 unfoldable pub authorization : Context → Rights

@@ -2,11 +2,12 @@
 #![tactic(auto)]
 
 ghost use Rattle.std.specs.Prelude.{◌≡◌};
-ghost use Rattle.authorization.specs.Authorization.{trusted_of, confirmed_of, shared_by, authorization};
+ghost use Rattle.authorization.specs.Authorization.{trusted_of, shared_by, authorization};
 
-use rights::{Granted, Rights};
+use rights::Rights;
+use run::Password;
 use session::Context;
-use standing::{Chain, Reach, Stage};
+use standing::{Chain, Reach, Stage, opened_by};
 
 // The rights of the trust point that the chain stands under.
 fn trusted(reach: Reach) -> Rights
@@ -14,49 +15,34 @@ fn trusted(reach: Reach) -> Rights
 {
     match reach {
         Reach::Empty => Rights(0),
-        Reach::ToDv(r) => r,
-        Reach::ToTerminal(r) => r,
-    }
-}
-
-fn confirmed(granted: Granted) -> Rights
-    ensures { result ≡ confirmed_of granted }
-{
-    match granted {
-        Granted::These(r) => r,
-        Granted::NoRights => Rights(0),
+        Reach::ToDv(r) | Reach::ToTerminal(r) => r,
     }
 }
 
 // What trust point, DV, terminal and confirmed rights share.
-fn shared(chain: Chain, granted: Granted) -> Rights
+#[tactic(auto, unfolding(crate::specs::Authorization::shared_by))]
+fn shared(chain: Chain, granted: Option<Rights>) -> Rights
     ensures { result ≡ shared_by chain granted }
 {
-    let reach = chain.reach;
-    let dv = chain.dv;
-    let terminal = chain.terminal;
-    let b = dv.rights;
-    let c = terminal.rights;
-    let a = trusted(reach);
-    let d = confirmed(granted);
-    Rights::common(a, b, c, d)
+    let confirmed = granted.unwrap_or(Rights(0));
+    Rights::common(
+        trusted(chain.reach),
+        chain.dv.rights,
+        chain.terminal.rights,
+        confirmed,
+    )
 }
 
 // Nothing before authentication, and nothing where the CAN opened and is not allowed.
+#[tactic(auto, unfolding(crate::specs::Authorization::authorization))]
 pub fn authorization(context: Context) -> Rights
     ensures { result ≡ authorization context }
 {
-    let opened = context.opened;
-    let granted = context.confirmed;
-    let chain = context.chain;
-    let stage = context.stage;
-    let rights = shared(chain, granted);
-    if stage.rank() != Stage::AUTHENTICATED {
+    if !matches!(context.stage, Stage::Authenticated) {
         return Rights(0);
     }
-    let can = opened.by_can();
-    let allowed = rights.allows_can();
-    if can & !allowed {
+    let rights = shared(context.chain, context.confirmed);
+    if opened_by(context.opened, Password::Can) && !rights.allows_can() {
         return Rights(0);
     }
     rights

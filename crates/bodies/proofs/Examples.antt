@@ -1,4 +1,5 @@
 -- A real certificate, computed by the definition. Assumes nothing.
+use Rattle.std.specs.Prelude.{None}
 use Prim.Native.Nat.{ℕ}
 use mathlib.Core.Path.{◌≡◌, refl}
 use mathlib.Core.List.{List, [], ◌∷◌}
@@ -16,8 +17,8 @@ real = 0x7F ∷ 0x4E ∷ 0x81 ∷ 0x99 ∷ 0x5F ∷ 0x29 ∷ 0x01 ∷ 0x00 ∷ 0
 
 pub real_read :
     body_of real
-    ≡ read (record { bytes = 0x55 ∷ 0x54 ∷ 0x44 ∷ 0x56 ∷ 0x44 ∷ 0x4F ∷ 0x4D ∷ 0x30 ∷ 0x30 ∷ 0x30 ∷ 0x30 ∷ 0x31 ∷ 0x00 ∷ 0x00 ∷ 0x00 ∷ 0x00 ∷ []; len = 12 }) (record { start = 22; end = 104 })
-    (record { bytes = 0x55 ∷ 0x54 ∷ 0x54 ∷ 0x45 ∷ 0x52 ∷ 0x4D ∷ 0x30 ∷ 0x30 ∷ 0x30 ∷ 0x30 ∷ 0x31 ∷ 0x00 ∷ 0x00 ∷ 0x00 ∷ 0x00 ∷ 0x00 ∷ []; len = 11 }) (record { 0 = 0x0000000110 }) (record { 0 = 20260201 }) (record { 0 = 20260228 })
-    (record { start = 0; end = 0 }) 12
+    ≡ read (record { 0 = record { bytes = 0x55 ∷ 0x54 ∷ 0x44 ∷ 0x56 ∷ 0x44 ∷ 0x4F ∷ 0x4D ∷ 0x30 ∷ 0x30 ∷ 0x30 ∷ 0x30 ∷ 0x31 ∷ 0x00 ∷ 0x00 ∷ 0x00 ∷ 0x00 ∷ []; len = 12 } }) (record { start = 22; end = 104 })
+    (record { 0 = record { bytes = 0x55 ∷ 0x54 ∷ 0x54 ∷ 0x45 ∷ 0x52 ∷ 0x4D ∷ 0x30 ∷ 0x30 ∷ 0x30 ∷ 0x30 ∷ 0x31 ∷ 0x00 ∷ 0x00 ∷ 0x00 ∷ 0x00 ∷ 0x00 ∷ []; len = 11 } }) (record { 0 = 0x0000000110 }) (record { 0 = 20260201 }) (record { 0 = 20260228 })
+    None 12
 unfolding body_of body_then version_then issuer_then key_then own_then rights_then first_then last_then ext_then taken is_name name_of copied_into is_date is_day before is_rights is_public_key objects_in objects objects_of found_in header_of tag_of second_tag_byte len_of length_after_81 length_after_82
 real_read = refl

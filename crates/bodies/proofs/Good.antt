@@ -1,11 +1,12 @@
 -- A body that was read is within document 01's limits. Assumes nothing.
+use Rattle.std.specs.Prelude.{Ok, Err, Option, Some}
 use Prim.Native.Nat.{ℕ}
 use mathlib.Core.Path.{◌≡◌}
 use mathlib.Core.Bool.{true, false, not}
 use mathlib.Core.List.{List, [], ◌∷◌}
 use lib.Dec.{eqb}
 use lib.ListN.{length, drop}
-use Rattle.laws.proofs.Bools.{of-both, and_l, and_r, true-false}
+use Rattle.laws.proofs.Bools.{of-both, and_l, and_r}
 use Rattle.objects.specs.Objects.{part, objects_in}
 use Rattle.objects.specs.Chain.{answered, any}
 use Rattle.objects.proofs.Chain.{taken-all, answered-all}
@@ -20,22 +21,21 @@ use Rattle.rights.specs.declared.Rights.{Rights}
 use Rattle.names.proofs.Kept.{name-good}
 use Rattle.days.proofs.Kept.{day-good}
 use Rattle.rights.proofs.Kept.{rights-good}
-use Rattle.bodies.specs.Body.{unread, read, ended, place_of, is_last_day, is_public_key, is_signature, Pending, body_then, signature, body_of, signed_of, version_then, issuer_then, key_then, own_then, rights_then, first_then, last_then, ext_then}
+use Rattle.bodies.specs.Body.{Reading, unread, read, ended, place_of, is_last_day, is_public_key, is_signature, Pending, body_then, signature, body_of, signed_of, version_then, issuer_then, key_then, own_then, rights_then, first_then, last_then, ext_then}
 use Rattle.bodies.specs.declared.Place.{Place}
 use Rattle.bodies.specs.declared.Body.{Body}
-use Rattle.bodies.specs.declared.Reading.{Reading}
-use Rattle.status.specs.declared.Intake.TheVariants.{Accepted}
 
 pub record Good (b : Body) : Type 0 where
   pub issuer : name_fits b.issuer ≡ true
   pub certificate : certificate_fits b.certificate ≡ true
 
 abbrev pub ReadGood : Reading → Type 0
-ReadGood r = r.answer ≡ Accepted → Good r.body
+ReadGood (Err u) = Unit {0}
+ReadGood (Ok b) = Good b
 
 never : ReadGood unread
 unfolding unread
-never e = true-false (cc)
+never = tt
 
 module _ (stop : ℕ) where
   module _ (issuer : Name) (key : Place) (own : Name) (rights : Rights) (i : name_fits issuer ≡ true) (o : name_fits own ≡ true) (r : rights_fit rights ≡ true) where
@@ -44,11 +44,11 @@ module _ (stop : ℕ) where
     unfolding ext_then certificate_fits
     ext-good first last f l q s n =
         of-both (λ (p : Pending). ReadGood (p n)) (eqb (length s) 0) good
-        (taken-all unread ReadGood never 0x65 true any s (λ c e r. ended r (read issuer key own rights first last (place_of stop s e)))
+        (taken-all unread ReadGood never 0x65 true any s (λ c e r. ended r (read issuer key own rights first last (Some (place_of stop s e))))
         (λ a e h m. of-both (λ (p : Pending). ReadGood (p m)) (eqb (length (drop e s)) 0) good never) n)
       where
-        good : {x : Place} {m : ℕ} → ReadGood (read issuer key own rights first last x m)
-        good h = record { issuer = i; certificate = rw (o, r, f, l, q) }
+        good : {x : Option Place} {m : ℕ} → ReadGood (read issuer key own rights first last x m)
+        good = record { issuer = i; certificate = rw (o, r, f, l, q) }
 
     last-good : (first : Day) → day_fits first ≡ true → (s : List ℕ) (n : ℕ) → ReadGood (last_then stop issuer key own rights first s n)
     unfolding last_then

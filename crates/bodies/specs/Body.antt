@@ -1,37 +1,35 @@
 -- The body of a certificate, as document 01 has it ("Data objects"). Assumes nothing: these are definitions.
 -- Each `..Then` takes one object and hands the rest to the one that stands above it: read from `body_of` upwards.
-use Rattle.std.specs.Prelude.{ℕ, ◌+◌, ◌-◌, List, [], ◌∷◌, Bool, true, false, cond, not, ◌&&◌, length, take, eqb}
-use Rattle.objects.specs.Objects.{objects_at, objects_in, within, found_in}
-use Rattle.objects.specs.declared.Count.{Count}
-use Rattle.objects.specs.declared.Count.TheVariants.{Refused}
-use Rattle.objects.specs.Chain.{answered, any, taken}
-use Rattle.objects.specs.declared.Found.{Found}
-use Rattle.objects.specs.declared.Found.TheVariants.{Content, Missing}
+use Rattle.std.specs.Prelude.{ℕ, ◌+◌, ◌-◌, List, [], ◌∷◌, Bool, true, false, cond, not, ◌&&◌, length, take, eqb, drop, ◌≡◌, ◌≤◌, Option, Some, None, Result, Ok, Err}
+use Rattle.objects.specs.Objects.{objects_at, objects_in, within, found_in, part}
+use Rattle.objects.specs.Chain.{answered, counted, any, taken}
+use Rattle.objects.specs.declared.Content.{Content}
 use Rattle.strings.specs.Bytes.{eqbs, among}
-use Rattle.names.specs.Names.{is_name, name_of, no_name}
+use Rattle.names.specs.Names.{is_name, name_of}
 use Rattle.days.specs.Days.{is_date, day_of, before}
 use Rattle.rights.specs.Rights.{is_rights, rights_of}
-use Rattle.certificate.specs.Certificate.{no_certificate}
 use Rattle.names.specs.declared.Name.{Name}
 use Rattle.days.specs.declared.Day.{Day}
 use Rattle.rights.specs.declared.Rights.{Rights}
 use Rattle.bodies.specs.declared.Place.{Place}
-use Rattle.bodies.specs.declared.Reading.{Reading}
-use Rattle.status.specs.declared.Intake.TheVariants.{Accepted, Unfit}
+use Rattle.bodies.specs.declared.Body.{Body}
+use Rattle.bodies.specs.declared.Cursor.{Cursor}
+use Rattle.bodies.specs.declared.Taken.{Taken}
+use Rattle.status.specs.declared.Unfit.{Unfit}
 
-abbrev pub no_place : Place
-no_place = record { start = 0; end = 0 }
+abbrev pub no_place : Option Place
+no_place = None
 
 -- no body, and a body of n objects
-unfoldable pub unread : Reading
-unread = record { answer = Unfit; body = record { issuer = no_name; certificate = no_certificate; key = no_place; ext = no_place; count = 0 } }
+abbrev pub Reading : Type 0
+Reading = Result Body Unfit
 
-abbrev pub read : (issuer : Name) (key : Place) (own : Name) → Rights → (first last : Day) (ext : Place) (n : ℕ) → Reading
+unfoldable pub unread : Reading
+unread = Err (record {})
+
+abbrev pub read : (issuer : Name) (key : Place) (own : Name) → Rights → (first last : Day) (ext : Option Place) (n : ℕ) → Reading
 read issuer key own rights first last ext n =
-    record {
-      answer = Accepted;
-      body = record { issuer = issuer; certificate = record { name = own; rights = rights; first = first; last = last; key = 0 }; key = key; ext = ext; count = n };
-    }
+    Ok (record { issuer = issuer; certificate = record { name = own; rights = rights; first = first; last = last; key = 0 }; key = key; ext = ext; count = n })
 
 -- what is answered once the objects are counted
 abbrev pub Pending : Type 0
@@ -72,7 +70,7 @@ module _ (stop : ℕ) where
   unfoldable pub ext_then : Name → Place → Name → Rights → Day → Day → List ℕ → Pending
   ext_then issuer key own rights first last s =
       cond (eqb (length s) 0) (read issuer key own rights first last no_place)
-      (taken unread 0x65 true any s (λ c e rest. ended rest (read issuer key own rights first last (place_of stop s e))))
+      (taken unread 0x65 true any s (λ c e rest. ended rest (read issuer key own rights first last (Some (place_of stop s e)))))
 
   -- 5F24 last day, not before the first
   unfoldable pub last_then : Name → Place → Name → Rights → Day → List ℕ → Pending
@@ -121,13 +119,40 @@ signed_of s = answered unread (objects_in s) (body_then signature s)
 -- ---- as the code tests them
 
 -- the objects of a public key, at depth 3, if no more than so many are left
-unfoldable pub key_objects : ℕ → List ℕ → Count
-key_objects left c = cond (is_public_key c) (within left (objects_at 3 c)) Refused
+unfoldable pub key_objects : ℕ → List ℕ → Option ℕ
+key_objects left c = cond (is_public_key c) (within left (objects_at 3 c)) None
 
 -- 5F37 with a signature, alone
-abbrev pub signs_by : List ℕ → Found → Bool
-signs_by r Missing = false
-signs_by r (Content a z) = among 1 longest_signature (z - a) && eqb z (length r)
+abbrev pub signs_by : List ℕ → Option Content → Bool
+signs_by r None = false
+signs_by r (Some c) = among 1 longest_signature (c.end - c.start) && eqb c.end (length r)
 
 unfoldable pub is_signed : List ℕ → Bool
 is_signed r = signs_by r (found_in 0x5F37 false r)
+
+-- a name, or unfit
+abbrev pub named : List ℕ → Result Name Unfit
+named c = cond (is_name c) (Ok (name_of c)) (Err (record {}))
+
+-- what is left of the body's bytes ends where it does, and no more than n objects were read
+abbrev pub At : ℕ → Cursor → Type 0
+At n at = (length at.left.now ≤ at.stop) × (at.used ≤ n)
+
+-- what is read of it, all counted
+abbrev pub Reads : Cursor → (ℕ → List ℕ → Pending) → Reading → Type 0
+Reads at then r = r ≡ counted unread at.used (objects_at 2 at.left.now) (then at.stop at.left.now)
+
+-- the object of this tag that stands there, and one more object was read
+pub record Took (t : ℕ) (w : Bool) (at : Cursor) (o : Taken) : Type 0 where
+  pub inside : Content
+  pub here : found_in t w at.left.now ≡ Some inside
+  pub sizes : (inside.start ≤ inside.end) × (inside.end ≤ length at.left.now)
+  pub content : o.content.now ≡ part inside.start inside.end at.left.now
+  pub place : o.place ≡ place_of at.stop at.left.now inside.end
+  pub left : o.next.left.now ≡ drop inside.end at.left.now
+  pub stop : o.next.stop ≡ at.stop
+  pub used : o.next.used ≡ at.used + 1
+
+abbrev pub TookBy : (t : ℕ) (w : Bool) (at : Cursor) → Result Taken Unfit → Type 0
+TookBy t w at (Err u) = found_in t w at.left.now ≡ None
+TookBy t w at (Ok o) = Took t w at o

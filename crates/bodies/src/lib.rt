@@ -1,25 +1,27 @@
 // The body of a certificate, 7F4E: one pass over its objects, each field taken as it passes.
 #![tactic(auto)]
 
-ghost use Rattle.std.specs.Prelude.{◌≡◌, ◌+◌, ◌≤◌, length};
-ghost use Rattle.objects.specs.Objects.{allowance, objects_at};
+ghost use Rattle.std.specs.Prelude.{◌≡◌, ◌+◌, ◌≤◌, Some};
+ghost use Rattle.objects.specs.Objects.{allowance};
 ghost use Rattle.objects.specs.Chain.{counted};
-ghost use Rattle.bodies.specs.Body.{read, unread, is_signed, key_objects, body_of, signed_of, version_then, issuer_then, key_then, own_then, rights_then, first_then, last_then, ext_then};
+ghost use Rattle.bodies.specs.Body.{unread, read, named, is_signed, key_objects, body_of, signed_of, version_then, issuer_then, key_then, own_then, rights_then, first_then, last_then, ext_then, At, Reads, TookBy};
 
 use certificate::Certificate;
-use days::{Dated, Day, day_of};
+use days::{Day, day_of};
 use names::{Name, is_name};
-use objects::{Count, Found};
-use rights::{Granted, Rights, rights_of};
-use status::Intake;
-use strings::same;
+use objects::Content;
+use rights::{Rights, rights_of};
+use status::Unfit;
 
-// Where an object stands, from its first byte up to its end; 0 and 0 where there is none.
-#[derive(Clone, Copy)]
+// Where an object stands, from its first byte up to its end.
+#[derive(Clone, Copy, PartialEq, Eq)]
 pub struct Place {
     pub start: usize,
     pub end: usize,
 }
+
+// Of a key that was not read yet.
+const NOWHERE: Place = Place { start: 0, end: 0 };
 
 // What a body states: its issuer, its holder's name, rights and days (the key number comes with the verdict), where its public
 // key and its extension stand, and how many objects it is.
@@ -28,15 +30,8 @@ pub struct Body {
     pub issuer: Name,
     pub certificate: Certificate,
     pub key: Place,
-    pub ext: Place,
+    pub ext: Option<Place>,
     pub count: usize,
-}
-
-// A body that was read; `none()` values where it was not.
-#[derive(Clone, Copy)]
-pub struct Reading {
-    pub answer: Intake,
-    pub body: Body,
 }
 
 // 06 and the mechanism of terminal authentication.
@@ -46,285 +41,282 @@ pub const MECHANISM: [u8; 12] = [6, 10, 4, 0, 0x7F, 0, 7, 2, 2, 2, 2, 3];
 pub const SIGNATURE: usize = 256;
 
 // The objects of a public key, at most so many.
-fn key_objects(s: &[u8], left: usize) -> Count
+fn key_objects(s: &[u8], left: usize) -> Option<usize>
     requires { (1 ≤ left) × (left ≤ allowance) }
     ensures { result ≡ key_objects left s.now }
 {
-    if s.len() < 12 {
-        return Count::Refused;
-    }
-    if same(&s[0..12], &MECHANISM) {
-        let Count::Objects(n) = objects::read_list(&s[12..], objects::DEPTH - 3, left - 1) else {
-            return Count::Refused;
-        };
-        Count::Objects(n + 1)
-    } else {
-        Count::Refused
-    }
-}
-
-impl Reading {
-    pub fn none() -> Self
-        ensures { result ≡ unread }
-    {
-        let issuer = Name::none();
-        let certificate = Certificate::none();
-        Reading {
-            answer: Intake::Unfit,
-            body: Body {
-                issuer: issuer,
-                certificate: certificate,
-                key: Place { start: 0, end: 0 },
-                ext: Place { start: 0, end: 0 },
-                count: 0,
-            },
-        }
-    }
+    let rest = s.strip_prefix(&MECHANISM)?;
+    let n = objects::read_list(rest, objects::DEPTH - 3, left - 1)?;
+    Some(n + 1)
 }
 
 // The body of the certificate that s is.
-pub fn read_body(s: &[u8]) -> Reading
+pub fn read_body(s: &[u8]) -> Result<Body, Unfit>
     ensures { result ≡ body_of s.now }
 {
-    let Found::Content { start, end } = objects::find(s, 0x7F4E, true) else {
-        return Reading::none();
-    };
+    let Content { start, end } = objects::find(s, 0x7F4E, true).ok_or(Unfit)?;
     if end != s.len() {
-        return Reading::none();
+        return Err(Unfit);
     }
-    from_version(&s[start..end], end, 1)
+    from_version(Cursor {
+        left: &s[start..end],
+        stop: end,
+        used: 1,
+    })
 }
 
+// Whether s is a signature, alone.
+#[tactic(auto, using(std::proofs::lemmas::Bool::Decides::nat_tests), unfolding(crate::specs::Body::is_signed))]
 fn signed(s: &[u8]) -> bool
     ensures { result ≡ is_signed s.now }
 {
-    let Found::Content { start, end } = objects::find(s, 0x5F37, false) else {
+    let Some(Content { start, end }) = objects::find(s, 0x5F37, false) else {
         return false;
     };
-    let n = end - start;
-    ((1 <= n) & (n <= SIGNATURE)) & (end == s.len())
+    (1..=SIGNATURE).contains(&(end - start)) && end == s.len()
 }
 
 // The body of the certificate that s is, with its signature after it.
-pub fn read_signed(s: &[u8]) -> Reading
+pub fn read_signed(s: &[u8]) -> Result<Body, Unfit>
     ensures { result ≡ signed_of s.now }
 {
-    let Found::Content { start, end } = objects::find(s, 0x7F4E, true) else {
-        return Reading::none();
-    };
-    if signed(&s[end..]) {
-        from_version(&s[start..end], end, 2)
-    } else {
-        Reading::none()
+    let Content { start, end } = objects::find(s, 0x7F4E, true).ok_or(Unfit)?;
+    if !signed(&s[end..]) {
+        return Err(Unfit);
     }
+    from_version(Cursor {
+        left: &s[start..end],
+        stop: end,
+        used: 2,
+    })
 }
 
 // ---- the fields, a function each
 
-fn from_version(s: &[u8], stop: usize, used: usize) -> Reading
-    requires { (length s.now ≤ stop) × (used ≤ 2) }
-    ensures { result ≡ counted unread used (objects_at 2 s.now) (version_then stop s.now) }
-{
-    let Found::Content { start, end } = objects::find(s, 0x5F29, false) else {
-        return Reading::none();
-    };
-    if same(&s[start..end], &[0]) {
-        from_issuer(&s[end..], stop, used + 1)
-    } else {
-        Reading::none()
-    }
-}
-
-fn from_issuer(s: &[u8], stop: usize, used: usize) -> Reading
-    requires { (length s.now ≤ stop) × (used ≤ 3) }
-    ensures { result ≡ counted unread used (objects_at 2 s.now) (issuer_then stop s.now) }
-{
-    let Found::Content { start, end } = objects::find(s, 0x42, false) else {
-        return Reading::none();
-    };
-    if is_name(&s[start..end]) {
-        let name = Name::of(&s[start..end]);
-        from_key(&s[end..], stop, used + 1, name)
-    } else {
-        Reading::none()
-    }
-}
-
-fn from_key(s: &[u8], stop: usize, used: usize, issuer: Name) -> Reading
-    requires { (length s.now ≤ stop) × (used ≤ 4) }
-    ensures { result ≡ counted unread used (objects_at 2 s.now) (key_then stop issuer s.now) }
-{
-    let Found::Content { start, end } = objects::find(s, 0x7F49, true) else {
-        return Reading::none();
-    };
-    let Count::Objects(n) = key_objects(&s[start..end], objects::ALLOWANCE - 1 - used) else {
-        return Reading::none();
-    };
-    let at = stop - s.len();
-    let place = Place {
-        start: at,
-        end: at + end,
-    };
-    from_own(&s[end..], stop, used + 1 + n, issuer, place)
-}
-
-fn from_own(s: &[u8], stop: usize, used: usize, issuer: Name, key: Place) -> Reading
-    requires { (length s.now ≤ stop) × (used ≤ allowance) }
-    ensures { result ≡ counted unread used (objects_at 2 s.now) (own_then stop issuer key s.now) }
-{
-    let Found::Content { start, end } = objects::find(s, 0x5F20, false) else {
-        return Reading::none();
-    };
-    if is_name(&s[start..end]) {
-        let name = Name::of(&s[start..end]);
-        from_rights(&s[end..], stop, used + 1, issuer, key, name)
-    } else {
-        Reading::none()
-    }
-}
-
-fn from_rights(s: &[u8], stop: usize, used: usize, issuer: Name, key: Place, own: Name) -> Reading
-    requires { (length s.now ≤ stop) × (used ≤ allowance + 1) }
-    ensures { result ≡ counted unread used (objects_at 2 s.now) (rights_then stop issuer key own s.now) }
-{
-    let Found::Content { start, end } = objects::find(s, 0x7F4C, true) else {
-        return Reading::none();
-    };
-    let Granted::These(granted) = rights_of(&s[start..end]) else {
-        return Reading::none();
-    };
-    from_first(&s[end..], stop, used + 3, issuer, key, own, granted)
-}
-
-fn from_first(
-    s: &[u8],
+// What is left of a body's bytes, where the body ends in the whole, and how many objects were read.
+#[derive(Clone, Copy)]
+struct Cursor<'a> {
+    left: &'a [u8],
     stop: usize,
     used: usize,
-    issuer: Name,
-    key: Place,
-    own: Name,
-    rights: Rights,
-) -> Reading
-    requires { (length s.now ≤ stop) × (used ≤ allowance + 4) }
-    ensures { result ≡ counted unread used (objects_at 2 s.now) (first_then stop issuer key own rights s.now) }
-{
-    let Found::Content { start, end } = objects::find(s, 0x5F25, false) else {
-        return Reading::none();
-    };
-    let Dated::On(day) = day_of(&s[start..end]) else {
-        return Reading::none();
-    };
-    from_last(&s[end..], stop, used + 1, issuer, key, own, rights, day)
 }
 
-fn from_last(
-    s: &[u8],
-    stop: usize,
-    used: usize,
-    issuer: Name,
-    key: Place,
-    own: Name,
-    rights: Rights,
-    first: Day,
-) -> Reading
-    requires { (length s.now ≤ stop) × (used ≤ allowance + 5) }
-    ensures { result ≡ counted unread used (objects_at 2 s.now) (last_then stop issuer key own rights first s.now) }
+// An object that was taken: its content, its place in the whole, and what stands after it.
+#[derive(Clone, Copy)]
+struct Taken<'a> {
+    content: &'a [u8],
+    place: Place,
+    next: Cursor<'a>,
+}
+
+impl<'a> Cursor<'a> {
+    // The object with this tag that stands here.
+    fn take(self, tag: u16, nests: bool) -> Result<Taken<'a>, Unfit>
+        requires { At 1024 self }
+        ensures { TookBy tag nests self.entry result }
+    {
+        let Content { start, end } = objects::find(self.left, tag, nests).ok_or(Unfit)?;
+        let at = self.stop - self.left.len();
+        Ok(Taken {
+            content: &self.left[start..end],
+            place: Place {
+                start: at,
+                end: at + end,
+            },
+            next: Cursor {
+                left: &self.left[end..],
+                used: self.used + 1,
+                ..self
+            },
+        })
+    }
+}
+
+// A name that the content of an object is.
+fn named(s: &[u8]) -> Result<Name, Unfit>
+    ensures { result ≡ named s.now }
 {
-    let Found::Content { start, end } = objects::find(s, 0x5F24, false) else {
-        return Reading::none();
+    if !is_name(s) {
+        return Err(Unfit);
+    }
+    Ok(Name::of(s))
+}
+
+fn from_version(at: Cursor<'_>) -> Result<Body, Unfit>
+    requires { At 2 at }
+    ensures { Reads at.entry version_then result }
+{
+    let object = at.take(0x5F29, false)?;
+    let [0] = object.content else {
+        return Err(Unfit);
     };
-    let Dated::On(day) = day_of(&s[start..end]) else {
-        return Reading::none();
-    };
-    if !day.before(first) {
-        from_ext(
-            &s[end..],
-            stop,
-            used + 1,
+    from_issuer(object.next)
+}
+
+fn from_issuer(at: Cursor<'_>) -> Result<Body, Unfit>
+    requires { At 3 at }
+    ensures { Reads at.entry issuer_then result }
+{
+    let object = at.take(0x42, false)?;
+    let issuer = named(object.content)?;
+    from_key(
+        object.next,
+        Body {
             issuer,
-            key,
-            own,
-            rights,
-            first,
-            day,
-        )
-    } else {
-        Reading::none()
-    }
+            certificate: Certificate::none(),
+            key: NOWHERE,
+            ext: None,
+            count: 0,
+        },
+    )
 }
 
-fn from_ext(
-    s: &[u8],
-    stop: usize,
-    used: usize,
-    issuer: Name,
-    key: Place,
-    own: Name,
-    rights: Rights,
-    first: Day,
-    last: Day,
-) -> Reading
-    requires { (length s.now ≤ stop) × (used ≤ allowance + 6) }
-    ensures { result ≡ counted unread used (objects_at 2 s.now) (ext_then stop issuer key own rights first last s.now) }
+// Each of these takes the body as far as it was read.
+fn from_key(at: Cursor<'_>, body: Body) -> Result<Body, Unfit>
+    requires { At 4 at }
+    ensures { Reads at.entry (λ stop. key_then stop body.issuer) result }
 {
-    if objects::ALLOWANCE < used {
-        return Reading::none();
-    }
-    if s.len() == 0 {
-        let place = Place { start: 0, end: 0 };
-        return whole(issuer, key, own, rights, first, last, place, used);
-    }
-    let Found::Content { start, end } = objects::find(s, 0x65, true) else {
-        return Reading::none();
+    let object = at.take(0x7F49, true)?;
+    let n = key_objects(object.content, objects::ALLOWANCE - 1 - at.used).ok_or(Unfit)?;
+    from_own(
+        Cursor {
+            used: object.next.used + n,
+            ..object.next
+        },
+        Body {
+            key: object.place,
+            ..body
+        },
+    )
+}
+
+fn from_own(at: Cursor<'_>, body: Body) -> Result<Body, Unfit>
+    requires { At allowance at }
+    ensures { Reads at.entry (λ stop. own_then stop body.issuer body.key) result }
+{
+    let object = at.take(0x5F20, false)?;
+    let name = named(object.content)?;
+    let certificate = Certificate {
+        name,
+        ..body.certificate
     };
-    if end != s.len() {
-        return Reading::none();
+    from_rights(
+        object.next,
+        Body {
+            certificate,
+            ..body
+        },
+    )
+}
+
+fn from_rights(at: Cursor<'_>, body: Body) -> Result<Body, Unfit>
+    requires { At (allowance + 1) at }
+    ensures { Reads at.entry (λ stop. rights_then stop body.issuer body.key body.certificate.name) result }
+{
+    let object = at.take(0x7F4C, true)?;
+    let rights = rights_of(object.content).ok_or(Unfit)?;
+    let certificate = Certificate {
+        rights,
+        ..body.certificate
+    };
+    // a template of rights holds two objects
+    let next = Cursor {
+        used: object.next.used + 2,
+        ..object.next
+    };
+    from_first(
+        next,
+        Body {
+            certificate,
+            ..body
+        },
+    )
+}
+
+fn from_first(at: Cursor<'_>, body: Body) -> Result<Body, Unfit>
+    requires { At (allowance + 4) at }
+    ensures { Reads at.entry (λ stop. first_then stop body.issuer body.key body.certificate.name body.certificate.rights) result }
+{
+    let object = at.take(0x5F25, false)?;
+    let first = day_of(object.content).ok_or(Unfit)?;
+    let certificate = Certificate {
+        first,
+        ..body.certificate
+    };
+    from_last(
+        object.next,
+        Body {
+            certificate,
+            ..body
+        },
+    )
+}
+
+fn from_last(at: Cursor<'_>, body: Body) -> Result<Body, Unfit>
+    requires { At (allowance + 5) at }
+    ensures { Reads at.entry (λ stop. last_then stop body.issuer body.key body.certificate.name body.certificate.rights body.certificate.first) result }
+{
+    let object = at.take(0x5F24, false)?;
+    let last = day_of(object.content).ok_or(Unfit)?;
+    if last.before(body.certificate.first) {
+        return Err(Unfit);
     }
-    let Count::Objects(n) = objects::read_list(
-        &s[start..end],
+    let certificate = Certificate {
+        last,
+        ..body.certificate
+    };
+    from_ext(
+        object.next,
+        Body {
+            certificate,
+            ..body
+        },
+    )
+}
+
+fn from_ext(at: Cursor<'_>, body: Body) -> Result<Body, Unfit>
+    requires { At (allowance + 6) at }
+    ensures { Reads at.entry (λ stop. ext_then stop body.issuer body.key body.certificate.name body.certificate.rights body.certificate.first body.certificate.last) result }
+{
+    if objects::ALLOWANCE < at.used {
+        return Err(Unfit);
+    }
+    if at.left.is_empty() {
+        return whole(at.used, Body { ext: None, ..body });
+    }
+    let object = at.take(0x65, true)?;
+    if !object.next.left.is_empty() {
+        return Err(Unfit);
+    }
+    let n = objects::read_list(
+        object.content,
         objects::DEPTH - 3,
-        objects::ALLOWANCE - used,
-    ) else {
-        return Reading::none();
-    };
-    let at = stop - s.len();
-    let place = Place {
-        start: at,
-        end: at + end,
-    };
-    whole(issuer, key, own, rights, first, last, place, used + 1 + n)
+        objects::ALLOWANCE - at.used,
+    )
+    .ok_or(Unfit)?;
+    whole(
+        object.next.used + n,
+        Body {
+            ext: Some(object.place),
+            ..body
+        },
+    )
 }
 
 // A body of so many objects.
-fn whole(
-    issuer: Name,
-    key: Place,
-    own: Name,
-    rights: Rights,
-    first: Day,
-    last: Day,
-    ext: Place,
-    count: usize,
-) -> Reading
-    ensures { result ≡ counted unread count (Count.Objects 0) (read issuer key own rights first last ext) }
+fn whole(count: usize, body: Body) -> Result<Body, Unfit>
+    ensures { result ≡ counted unread count (Some 0) (read body.issuer body.key body.certificate.name body.certificate.rights body.certificate.first body.certificate.last body.ext) }
 {
     if objects::ALLOWANCE < count {
-        return Reading::none();
+        return Err(Unfit);
     }
-    Reading {
-        answer: Intake::Accepted,
-        body: Body {
-            issuer: issuer,
-            certificate: Certificate {
-                name: own,
-                rights: rights,
-                first: first,
-                last: last,
-                key: 0,
-            },
-            key: key,
-            ext: ext,
-            count: count,
-        },
-    }
+    let certificate = Certificate {
+        key: 0,
+        ..body.certificate
+    };
+    Ok(Body {
+        certificate,
+        count,
+        ..body
+    })
 }

@@ -8,8 +8,8 @@ use certificate::Certificate;
 use keys::Key;
 use names::Name;
 
-// The name in 83 or a certificate's issuer, the certificate, the key announced; each `none()` where the command brought none. In the
-// chip key's plan the key is the session's, to be compared.
+// The name in 83 or a certificate's issuer, the certificate, the key announced; each `none()` where the command brought none, as
+// the definition `brought_none` has them. In the chip key's plan the key is the session's, to be compared.
 #[derive(Clone, Copy)]
 pub struct Brought {
     pub name: Name,
@@ -18,38 +18,36 @@ pub struct Brought {
 }
 
 impl Brought {
+    #[tactic(auto, unfolding(crate::specs::Brought::brought_none))]
     pub fn none() -> Self
         ensures { result ≡ brought_none }
     {
-        let name = Name::none();
-        let certificate = Certificate::none();
-        let key = Key::none();
         Brought {
-            name: name,
-            certificate: certificate,
-            key: key,
+            name: Name::none(),
+            certificate: Certificate::none(),
+            key: Key::none(),
         }
     }
 
-    pub fn with_name(mut self, name: Name) -> Self
+    pub fn with_name(self, name: Name) -> Self
         ensures { result ≡ with_name self name }
     {
-        self.name = name;
-        self
+        Brought { name, ..self }
     }
 
-    pub fn with_certificate(mut self, certificate: Certificate) -> Self
+    pub fn with_certificate(self, certificate: Certificate) -> Self
         ensures { result ≡ with_certificate self certificate }
     {
-        self.certificate = certificate;
-        self
+        Brought {
+            certificate,
+            ..self
+        }
     }
 
     // With the key that is announced, or to be compared.
-    pub fn with_announced(mut self, key: Key) -> Self
+    pub fn with_announced(self, key: Key) -> Self
         ensures { result ≡ with_announced self key }
     {
-        self.key = key;
-        self
+        Brought { key, ..self }
     }
 }

@@ -1,42 +1,39 @@
 // Bytes written over a part of a lent buffer. What has no room is not written.
 #![tactic(auto)]
 
-ghost use Rattle.std.specs.Prelude.{◌≡◌, ◌+◌, ◌≤◌, leb, length};
-ghost use Rattle.buffers.specs.Lay.{Put};
-ghost use Rattle.buffers.specs.Room.{fitting};
+ghost use Rattle.std.specs.Prelude.{◌≡◌, ◌+◌, leb, length};
+ghost use Rattle.buffers.specs.Laid.{Laid};
 
-// Whether so many bytes have room at a place of a buffer.
-pub fn has_room(size: usize, at: usize, n: usize) -> bool
-    ensures { result ≡ leb (at + n) size }
-{
-    if size < at {
-        return false;
-    }
-    if size - at < n {
-        return false;
-    }
-    true
+// A lent buffer, and the place where the next piece goes.
+#[derive(Drop)]
+pub struct Sheet<'a> {
+    pub out: &'a mut [u8],
+    pub at: usize,
 }
 
-// The bytes of s from a place on: the buffer has room for them.
-fn lay(out: &mut [u8], at: usize, s: &[u8]) -> usize
-    requires { at + length s.now ≤ length out.old }
-    ensures { Put at s.now out.old out.new result }
-{
-    let mut i = 0;
-    while i < s.len() {
-        out[at + i] = s[i];
-        i += 1;
+impl<'a> Sheet<'a> {
+    // A buffer that is written from its start on.
+    pub fn new(out: &'a mut [u8]) -> Sheet<'a>
+        ensures { result ≡ record { out = out.entry; at = 0 } }
+    {
+        Sheet { out, at: 0 }
     }
-    at + i
-}
 
-// Bytes as they are; the place after them.
-pub fn put(out: &mut [u8], at: usize, s: &[u8]) -> usize
-    ensures { Put at (fitting at s.now out.old) out.old out.new result }
-{
-    if has_room(out.len(), at, s.len()) {
-        return lay(&mut *out, at, s);
+    // Whether so many bytes have room.
+    pub fn has_room(&self, n: usize) -> bool
+        ensures { result ≡ leb (self.now.at + n) (length self.now.out.now) }
+    {
+        self.at <= self.out.len() && n <= self.out.len() - self.at
     }
-    at
+
+    // Bytes as they are, and the place after them.
+    pub fn put(&mut self, s: &[u8])
+        ensures { Laid s.now self.old self.new }
+    {
+        if self.has_room(s.len()) {
+            let end = self.at + s.len();
+            self.out[self.at..end].copy_from_slice(s);
+            self.at = end;
+        }
+    }
 }

@@ -18,12 +18,12 @@ pub struct Certificate {
 }
 
 impl Certificate {
+    #[tactic(auto, unfolding(crate::specs::Certificate::no_certificate))]
     pub fn none() -> Self
         ensures { result ≡ no_certificate }
     {
-        let name = Name::none();
         Certificate {
-            name: name,
+            name: Name::none(),
             rights: Rights(0),
             first: Day(0),
             last: Day(0),
@@ -32,35 +32,31 @@ impl Certificate {
     }
 
     // Whether name, rights and days are within their limits, the first day not after the last.
+    #[tactic(auto, unfolding(crate::specs::Certificate::certificate_fits))]
     pub fn fits(self) -> bool
         ensures { result ≡ certificate_fits self }
     {
-        let name = self.name;
-        let rights = self.rights;
-        let first = self.first;
-        let last = self.last;
-        let a = name.fits();
-        let b = rights.fits();
-        let c = first.fits();
-        let d = last.fits();
-        let turned = last.before(first);
-        a & b & c & d & !turned
+        self.name.fits()
+            && self.rights.fits()
+            && self.first.fits()
+            && self.last.fits()
+            && !self.last.before(self.first)
     }
 
     // Whether the last day has passed.
+    #[tactic(auto, unfolding(crate::specs::Certificate::expired))]
     pub fn expired(self, today: Day) -> bool
         ensures { result ≡ expired self today }
     {
-        let last = self.last;
-        last.before(today)
+        self.last.before(today)
     }
 
     // The same certificate with the number of the key that was taken in.
-    pub fn with_key(mut self, key: u64) -> Self
+    #[tactic(auto, unfolding(crate::specs::Certificate::with_key))]
+    pub fn with_key(self, key: u64) -> Self
         ensures { result ≡ with_key self key }
     {
-        self.key = key;
-        self
+        Certificate { key, ..self }
     }
 }
 
@@ -68,10 +64,9 @@ impl Certificate {
 pub fn today_after(dv: Certificate, terminal: Certificate, today: Day) -> Day
     ensures { result ≡ today_after dv terminal today }
 {
-    let rights = dv.rights;
-    let first = terminal.first;
-    if rights.role().is_official() {
-        return today.later(first);
+    if dv.rights.role().is_official() {
+        today.later(terminal.first)
+    } else {
+        today
     }
-    today
 }

@@ -1,5 +1,5 @@
 -- Select issuer and verify certificate. Assumes nothing: these are definitions.
-use Rattle.std.specs.Prelude.{Bool, cond, not, ◌&&◌, ◌||◌}
+use Rattle.std.specs.Prelude.{Bool, cond, not, ◌&&◌, ◌||◌, Option, Some, None}
 use Rattle.names.specs.Names.{same_name}
 use Rattle.certificate.specs.Certificate.{expired}
 use Rattle.rights.specs.Rights.{role_of}
@@ -23,17 +23,13 @@ use Rattle.plans.specs.declared.Plan.{Plan}
 use Rattle.plans.specs.Plans.{settled_by}
 use Rattle.trust.specs.Trust.{found, knows, issuer_of}
 use Rattle.trust.specs.declared.Points.{Points}
-use Rattle.trust.specs.declared.Trusted.{Trusted}
-use Rattle.trust.specs.declared.Trusted.TheVariants.{Is, Unknown}
-use Rattle.standing.specs.declared.Selected.{Selected}
-use Rattle.standing.specs.declared.Selected.TheVariants.{NoIssuer, Of}
 use Rattle.standing.specs.declared.Chain.{Chain}
 use Rattle.standing.specs.Standing.{has_dv}
 
 -- "Selectable: trust points and the chain's DV"; a name that is neither's is 6A88
-abbrev pub select_by : Chain → Name → Trusted → Plan
-select_by chain n (Is i) = settled_by (IsSelected i)
-select_by chain n Unknown = cond (has_dv chain && same_name n chain.dv.name) (settled_by (IsSelected Dv)) (settled_by (Refused NotFound))
+abbrev pub select_by : Chain → Name → Option Issuer → Plan
+select_by chain n (Some i) = settled_by (IsSelected i)
+select_by chain n None = cond (has_dv chain && same_name n chain.dv.name) (settled_by (IsSelected Dv)) (settled_by (Refused NotFound))
 
 unfoldable pub select_plan : Points → Chain → Name → Plan
 select_plan h chain n = select_by chain n (found h n)
@@ -79,7 +75,7 @@ unfoldable pub under_plan : Points → (dv : Certificate) → Day → Issuer →
 under_plan h dv today i b = record { ending = issued_ending h dv today i (issuer_of h i dv) b (role_of b.certificate.rights); brought = b }
 
 -- under the selected issuer
-unfoldable pub verify_plan : Points → (dv : Certificate) → Day → Selected → Brought → Plan
+unfoldable pub verify_plan : Points → (dv : Certificate) → Day → Option Issuer → Brought → Plan
 -- the moment has refused this before
-verify_plan h dv today NoIssuer b = settled_by (Refused Moment)
-verify_plan h dv today (Of i) b = under_plan h dv today i b
+verify_plan h dv today None b = settled_by (Refused Moment)
+verify_plan h dv today (Some i) b = under_plan h dv today i b

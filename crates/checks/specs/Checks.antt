@@ -1,5 +1,5 @@
 -- "Commands": the checks of each after moment and the data's form, certificates apart, over the parts of the token that they look at. Assumes nothing: these are definitions.
-use Rattle.std.specs.Prelude.{ℕ, Bool, false, cond, not, ◌&&◌, ◌||◌, eqb}
+use Rattle.std.specs.Prelude.{ℕ, Bool, false, cond, not, ◌&&◌, ◌||◌, eqb, Option}
 use Rattle.names.specs.Names.{same_name}
 use Rattle.brought.specs.Brought.{brought_none, with_announced}
 use Rattle.rights.specs.Rights.{has_right, reads_group, pin_management}
@@ -22,9 +22,9 @@ use Rattle.fields.specs.declared.asked.Content.TheVariants.{Step as StepData, Ch
 use Rattle.standing.specs.declared.Stage.{Stage}
 use Rattle.standing.specs.declared.Stage.TheVariants.{Idle, Run, Announced, Challenged, Proven, ChipKeyChosen, Authenticated}
 use Rattle.session.specs.declared.Context.{Context}
-use Rattle.standing.specs.declared.Opened.{Opened}
 use Rattle.standing.specs.Standing.{opened_by_pin}
 use Rattle.authorization.specs.Authorization.{authorization}
+use Rattle.run.specs.declared.Password.{Password}
 
 -- "Bit 5 is that of the effective authorization"
 abbrev pub manages_pin : Context → Bool
@@ -32,7 +32,7 @@ manages_pin z = has_right pin_management (authorization z)
 
 -- ---- Choose password
 
-unfoldable pub choose_plan : (pin : ℕ) (active : Bool) (puk : ℕ) → Opened → Choice → Plan
+unfoldable pub choose_plan : (pin : ℕ) (active : Bool) (puk : ℕ) → Option Password → Choice → Plan
 choose_plan pin active puk opened c = settled_by (choose_event pin active puk opened c)
 
 -- ---- Run step

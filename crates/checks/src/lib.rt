@@ -4,8 +4,7 @@
 ghost use Rattle.std.specs.Prelude.{◌≡◌};
 ghost use Rattle.plans.specs.Plans.{settled_by};
 ghost use Rattle.event.specs.declared.Event.TheVariants.{Refused};
-ghost use Rattle.event.specs.declared.Refusal.TheVariants.{Data};
-ghost use Rattle.checks.specs.Checks.{is_for, choose_plan, run_plan, chip_plan, general_plan, announce_plan, read_plan, change_plan, unblock_plan, active_plan};
+ghost use Rattle.checks.specs.Checks.{manages_pin, is_for, choose_plan, run_plan, chip_plan, general_plan, announce_plan, read_plan, change_plan, unblock_plan, active_plan};
 
 use authorization::authorization;
 use brought::Brought;
@@ -14,124 +13,119 @@ use fields::asked::Content;
 use keys::Key;
 use names::Name;
 use plans::{Ending, Job, Plan};
-use run::{Choice, Step};
+use run::{Choice, Password, Step};
 use session::Context;
-use standing::{Opened, Stage};
+use standing::{Stage, opened_by};
 
 // Whether 7C holds the data of this step.
 fn is_for(content: Content, step: Step) -> bool
     ensures { result ≡ is_for content step }
 {
     match content {
-        Content::Step(held) => held.number() == step.number(),
+        Content::Step(held) => held == step,
         Content::Chip => false,
     }
 }
 
-fn bad_data() -> Plan
-    ensures { result ≡ settled_by (Refused Data) }
+// Bit 5 of the effective authorization.
+fn manages_pin(context: Context) -> bool
+    ensures { result ≡ manages_pin context }
 {
-    Plan::settled(Event::Refused(Refusal::Data))
+    authorization(context).manages_pin()
 }
 
-pub fn choose(pin: u8, active: bool, puk: u8, opened: Opened, choice: Choice) -> Plan
+fn refused(refusal: Refusal) -> Plan
+    ensures { result ≡ settled_by (Refused refusal) }
+{
+    Plan::settled(Event::Refused(refusal))
+}
+
+#[tactic(auto, unfolding(crate::specs::Checks::choose_plan))]
+pub fn choose(pin: u8, active: bool, puk: u8, opened: Option<Password>, choice: Choice) -> Plan
     ensures { result ≡ choose_plan pin active puk opened choice }
 {
     Plan::settled(outcome::choose(pin, active, puk, opened, choice))
 }
 
 // A step of an open run.
+#[tactic(auto, unfolding(crate::specs::Checks::run_plan))]
 fn run_step(pin: u8, choice: Choice, step: Step, content: Content) -> Plan
     ensures { result ≡ run_plan pin choice step content }
 {
     if !is_for(content, step) {
-        return bad_data();
+        return refused(Refusal::Data);
     }
-    let a = outcome::passed(choice, step);
-    let b = outcome::otherwise(choice, step, pin);
-    Plan::awaits(Job::Step(step), a, b)
+    let passed = outcome::passed(choice, step);
+    let otherwise = outcome::otherwise(choice, step, pin);
+    Plan::awaits(Job::Step(step), passed, otherwise)
 }
 
 // The chip key, with the announced key to compare.
+#[tactic(auto, unfolding(crate::specs::Checks::chip_plan))]
 fn chip_key(key: Key, content: Content) -> Plan
     ensures { result ≡ chip_plan key content }
 {
     match content {
-        Content::Step(_) => bad_data(),
-        Content::Chip => {
-            let brought = Brought::none().with_announced(key);
-            Plan {
-                ending: Ending::Awaits(Job::ChipKey, Event::Authenticated, Event::ChipLost),
-                brought: brought,
-            }
-        }
+        Content::Step(_) => refused(Refusal::Data),
+        Content::Chip => Plan {
+            ending: Ending::Awaits(Job::ChipKey, Event::Authenticated, Event::ChipLost),
+            brought: Brought::none().with_announced(key),
+        },
     }
 }
 
+#[tactic(auto, unfolding(crate::specs::Checks::general_plan))]
 pub fn general(context: Context, pin: u8, content: Content) -> Plan
     ensures { result ≡ general_plan context.key pin context.stage content }
 {
-    let stage = context.stage;
-    let key = context.key;
-    match stage {
+    match context.stage {
         Stage::Run(choice, step) => run_step(pin, choice, step, content),
-        Stage::ChipKeyChosen => chip_key(key, content),
-        Stage::Idle => Plan::settled(Event::Refused(Refusal::Moment)),
-        Stage::Announced => Plan::settled(Event::Refused(Refusal::Moment)),
-        Stage::Challenged => Plan::settled(Event::Refused(Refusal::Moment)),
-        Stage::Proven => Plan::settled(Event::Refused(Refusal::Moment)),
-        Stage::Authenticated => Plan::settled(Event::Refused(Refusal::Moment)),
+        Stage::ChipKeyChosen => chip_key(context.key, content),
+        _ => refused(Refusal::Moment),
     }
 }
 
+#[tactic(auto, unfolding(crate::specs::Checks::announce_plan))]
 pub fn announce(terminal: Name, brought: Brought) -> Plan
     ensures { result ≡ announce_plan terminal brought }
 {
-    let name = brought.name;
-    if name.same(terminal) {
+    if brought.name.same(terminal) {
         return Plan {
             ending: Ending::Settled(Event::Announced),
-            brought: brought,
+            brought,
         };
     }
-    Plan::settled(Event::Refused(Refusal::NotFound))
+    refused(Refusal::NotFound)
 }
 
+#[tactic(auto, unfolding(crate::specs::Checks::read_plan))]
 pub fn read(context: Context, group: u8) -> Plan
     ensures { result ≡ read_plan context group }
 {
-    let rights = authorization(context);
-    let ground = rights.reads(group);
-    Plan::settled(outcome::on(ground, Event::ReadAllowed))
+    Plan::settled(outcome::on(authorization(context).reads(group), Event::ReadAllowed))
 }
 
+#[tactic(auto, unfolding(crate::specs::Checks::change_plan))]
 pub fn change_pin(context: Context, active: bool) -> Plan
     ensures { result ≡ change_plan context active }
 {
-    let opened = context.opened;
-    let rights = authorization(context);
-    let right = rights.manages_pin();
-    let own = opened.by_pin();
-    if (own & active) | right {
+    if (opened_by(context.opened, Password::Pin) && active) || manages_pin(context) {
         return Plan::awaits(Job::PinChange, Event::PinChanged, Event::NotPassed);
     }
-    Plan::settled(Event::Refused(Refusal::Lacking))
+    refused(Refusal::Lacking)
 }
 
+#[tactic(auto, unfolding(crate::specs::Checks::unblock_plan))]
 pub fn unblock(context: Context, pin: u8, puk: u8) -> Plan
     ensures { result ≡ unblock_plan context pin puk }
 {
-    let opened = context.opened;
-    let rights = authorization(context);
-    let right = rights.manages_pin();
-    Plan::settled(outcome::unblock(opened, right, pin, puk))
+    Plan::settled(outcome::unblock(context.opened, manages_pin(context), pin, puk))
 }
 
 // Activate and deactivate.
+#[tactic(auto, unfolding(crate::specs::Checks::active_plan))]
 pub fn set_active(context: Context, done: Event) -> Plan
     ensures { result ≡ active_plan context done }
 {
-    let rights = authorization(context);
-    let right = rights.manages_pin();
-    Plan::settled(outcome::on(right, done))
+    Plan::settled(outcome::on(manages_pin(context), done))
 }

@@ -17,7 +17,7 @@ before_days = take 144 (drop 5 verify_dv)
 
 -- the word that this body is answered with, once it has these two days
 abbrev pub body_word : (first last : List ℕ) → ℕ
-body_word first last = word_number (intake_word (body_of (before_days ++ first ++ (0x5F ∷ 0x24 ∷ 0x06 ∷ last))).answer)
+body_word first last = word_number (intake_word (body_of (before_days ++ first ++ (0x5F ∷ 0x24 ∷ 0x06 ∷ last))))
 
 -- ---- personalisation
 
@@ -27,7 +27,7 @@ point_with first last = record { name = root.name; rights = root.rights; first =
 
 -- the word that it is answered with, on this day
 abbrev pub made_word : Certificate → (today : ℕ) → ℕ
-made_word p today = word_number (intake_word (made_of (one_point p) (record { 0 = today })).made)
+made_word p today = word_number (intake_word (made_of (one_point p) (record { 0 = today })))
 
 -- ---- the list
 

@@ -1,8 +1,7 @@
 -- "Values to meet": P1 to P12, one list. The tokens are written here; what they answer is computed by the definitions that the
 -- contracts cite. Assumes nothing: these are definitions.
-use Rattle.std.specs.Prelude.{ℕ, ◌+◌, true, false, ◌≡◌, List, [], ◌∷◌, replicate}
-use Rattle.objects.specs.Objects.{header_of}
-use Rattle.objects.specs.declared.Head.TheVariants.{Header, NoHeader}
+use Rattle.std.specs.Prelude.{ℕ, ◌+◌, true, false, ◌≡◌, List, [], ◌∷◌, replicate, Option, Some, None}
+use Rattle.objects.specs.Objects.{header, header_of}
 use Rattle.names.specs.Names.{name_of}
 use Rattle.keys.specs.Keys.{key_of}
 use Rattle.certificate.specs.Certificate.{no_certificate}
@@ -10,7 +9,6 @@ use Rattle.rights.specs.Rights.{reads_group}
 use Rattle.names.specs.declared.Name.{Name}
 use Rattle.certificate.specs.declared.Certificate.{Certificate}
 use Rattle.rights.specs.declared.Rights.{Rights}
-use Rattle.rights.specs.declared.Granted.TheVariants.{These, NoRights}
 use Rattle.run.specs.declared.Password.{Password}
 use Rattle.run.specs.declared.Password.TheVariants.{Can, Pin}
 use Rattle.run.specs.declared.Choice.TheVariants.{Pin as ChosenPin}
@@ -23,8 +21,6 @@ use Rattle.verdicts.specs.declared.Answered.{Answered}
 use Rattle.verdicts.specs.declared.Verdict.TheVariants.{Passed, Failed, Missing}
 use Rattle.reply.specs.Reply.{room}
 use Rattle.trust.specs.Trust.{one_point, names_of}
-use Rattle.standing.specs.declared.Opened.{Opened}
-use Rattle.standing.specs.declared.Opened.TheVariants.{Nobody, By}
 use Rattle.standing.specs.declared.Reach.TheVariants.{ToDv, ToTerminal}
 use Rattle.standing.specs.declared.Chain.{Chain}
 use Rattle.standing.specs.declared.Stage.{Stage}
@@ -100,7 +96,7 @@ to_terminal r = record { reach = ToTerminal root_rights; dv = dv; terminal = ter
 
 -- opened by this password with the confirmed rights
 abbrev pub opened_by : Password → Session
-opened_by p = bare_session (By p) (These confirmed_rights) Idle
+opened_by p = bare_session (Some p) (Some confirmed_rights) Idle
 
 -- with the chain down to a terminal with these rights, a key announced, and so far
 abbrev pub chained : Password → Rights → Stage → Session
@@ -119,8 +115,8 @@ abbrev pub token_in : Session → Token
 token_in z = token_at 20260215 z
 
 -- a PIN run at step four, with this counter, over a session that was opened so
-abbrev pub run_at : ℕ → Opened → Token
-run_at k o = with_pin (token_in (bare_session o NoRights (Run ChosenPin Confirm))) k
+abbrev pub run_at : ℕ → Option Password → Token
+run_at k o = with_pin (token_in (bare_session o None (Run ChosenPin Confirm))) k
 
 -- ---- commands, whole
 
@@ -184,11 +180,11 @@ pub record Values : Type 0 where
   -- group 21 is 0010000000: it reads 21, not 20 and not 22, and no other bit reads 21
   pub p4 : (reads_group (record { 0 = 0x0010000000 }) 21 ≡ true) × (reads_group (record { 0 = 0x0010000000 }) 20 ≡ false) × (reads_group (record { 0 = 0x0010000000 }) 22 ≡ false) × (reads_group (record { 0 = 0xFFEFFFFFFF }) 21 ≡ false)
   -- counter 2, trial lost: 63C1, and the counter is 1
-  pub p5 : ((trial_failed (run_at 2 Nobody)).bytes ≡ 0x63 ∷ 0xC1 ∷ []) × ((trial_failed (run_at 2 Nobody)).token.pin ≡ 1)
+  pub p5 : ((trial_failed (run_at 2 None)).bytes ≡ 0x63 ∷ 0xC1 ∷ []) × ((trial_failed (run_at 2 None)).token.pin ≡ 1)
   -- counter 1, none: 63C0, and the counter is 0
-  pub p6 : ((asked (run_at 1 (By Can)) step_four).bytes ≡ 0x63 ∷ 0xC0 ∷ []) × ((asked (run_at 1 (By Can)) step_four).token.pin ≡ 0)
+  pub p6 : ((asked (run_at 1 (Some Can)) step_four).bytes ≡ 0x63 ∷ 0xC0 ∷ []) × ((asked (run_at 1 (Some Can)) step_four).token.pin ≡ 0)
   -- counter 1, no CAN: 6985
-  pub p7 : (asked_plain (with_pin (token_in (bare_session Nobody NoRights Idle)) 1) choose_pin).bytes ≡ 0x69 ∷ 0x85 ∷ []
+  pub p7 : (asked_plain (with_pin (token_in (bare_session None None Idle)) 1) choose_pin).bytes ≡ 0x69 ∷ 0x85 ∷ []
   -- last day equals today: valid, of a DV and of a terminal
   pub p8 : ((certified 20260501 no_chain Newest verify_dv).bytes ≡ 0x90 ∷ 0x00 ∷ []) × ((certified 20260228 to_dv Dv verify_terminal).bytes ≡ 0x90 ∷ 0x00 ∷ [])
   -- a day earlier: 6984, of both
@@ -196,7 +192,7 @@ pub record Values : Type 0 where
   -- a link accepted: UTCVCAAT00002 is the newest trust point then
   pub p9-link : ((certified 20300101 no_chain Newest verify_link).bytes ≡ 0x90 ∷ 0x00 ∷ []) × ((names_of (certified 20300101 no_chain Newest verify_link).token.points).first ≡ link_name)
   -- length 81 7F refused, 81 80 read
-  pub p10 : (header_of (0x53 ∷ 0x81 ∷ 0x7F ∷ replicate 0x7F 0x00) ≡ NoHeader) × (header_of (0x53 ∷ 0x81 ∷ 0x80 ∷ replicate 0x80 0x00) ≡ Header 0x53 false 3 0x83)
+  pub p10 : (header_of (0x53 ∷ 0x81 ∷ 0x7F ∷ replicate 0x7F 0x00) ≡ None) × (header_of (0x53 ∷ 0x81 ∷ 0x80 ∷ replicate 0x80 0x00) ≡ header 0x53 false 3 0x83)
   -- proof passed, read before chip key: 6982; the same session authenticated reads
   pub p11 : ((asked (token_in (chained Pin terminal_rights Proven)) (read_group 1)).bytes ≡ 0x69 ∷ 0x82 ∷ []) × ((asked (token_in (chained Pin terminal_rights Authenticated)) (read_group 1)).bytes ≡ 0x90 ∷ 0x00 ∷ [])
   -- choice while authenticated, then read: 6985

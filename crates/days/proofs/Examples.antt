@@ -1,10 +1,10 @@
 -- Days that there are and days that there are not, computed by the definition. Assumes nothing.
+use Rattle.std.specs.Prelude.{Some, None}
 use Prim.Native.Nat.{ℕ}
 use mathlib.Core.Bool.{true, false}
 use mathlib.Core.Path.{◌≡◌, refl}
 use mathlib.Core.List.{List, [], ◌∷◌, map}
 use Rattle.days.specs.Days.{days_in, is_day, is_date, dated}
-use Rattle.days.specs.declared.Dated.TheVariants.{On, NoDay}
 
 abbrev months : List ℕ
 months = 1 ∷ 2 ∷ 3 ∷ 4 ∷ 5 ∷ 6 ∷ 7 ∷ 8 ∷ 9 ∷ 10 ∷ 11 ∷ 12 ∷ []
@@ -14,8 +14,8 @@ pub examples :
     (map (days_in 2023) months ≡ 31 ∷ 28 ∷ 31 ∷ 30 ∷ 31 ∷ 30 ∷ 31 ∷ 31 ∷ 30 ∷ 31 ∷ 30 ∷ 31 ∷ [])
     × (map (days_in 2024) months ≡ 31 ∷ 29 ∷ 31 ∷ 30 ∷ 31 ∷ 30 ∷ 31 ∷ 31 ∷ 30 ∷ 31 ∷ 30 ∷ 31 ∷ [])
     -- 29 February 2023 and 2024, written
-    × (dated (2 ∷ 3 ∷ 0 ∷ 2 ∷ 2 ∷ 9 ∷ []) ≡ NoDay)
-    × (dated (2 ∷ 4 ∷ 0 ∷ 2 ∷ 2 ∷ 9 ∷ []) ≡ On (record { 0 = 20240229 }))
+    × (dated (2 ∷ 3 ∷ 0 ∷ 2 ∷ 2 ∷ 9 ∷ []) ≡ None)
+    × (dated (2 ∷ 4 ∷ 0 ∷ 2 ∷ 2 ∷ 9 ∷ []) ≡ Some (record { 0 = 20240229 }))
     -- the first leap year and the last, and the years beside them
     × (is_day 20000229 ≡ true)
     × (is_day 20010229 ≡ false)

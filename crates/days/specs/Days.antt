@@ -1,11 +1,9 @@
 -- "Dates: six bytes 0..9, YYMMDD, 2000 to 2099, month 01..12", and by W-203: "A date is now valid only if that day exists, with leap
 -- years from 2000 to 2096 every fourth year." Assumes nothing: these are definitions.
-use Rattle.std.specs.Prelude.{ℕ, ◌/◌, ◌%◌, List, Bool, cond, ◌&&◌, ◌||◌, length, eqb, ltb}
+use Rattle.std.specs.Prelude.{ℕ, ◌/◌, ◌%◌, List, Bool, cond, ◌&&◌, ◌||◌, length, eqb, ltb, Option, Some, None}
 use Rattle.strings.specs.Bytes.{among, all_of, number}
 use Rattle.strings.specs.declared.Class.TheVariants.{Digit}
 use Rattle.days.specs.declared.Day.{Day}
-use Rattle.days.specs.declared.Dated.{Dated}
-use Rattle.days.specs.declared.Dated.TheVariants.{On, NoDay}
 
 -- "leap years .. every fourth year", 2000 among them
 abbrev pub is_leap : (year : ℕ) → Bool
@@ -34,8 +32,8 @@ day_of c = number 10 20 c
 unfoldable pub is_date : List ℕ → Bool
 is_date c = eqb (length c) 6 && (all_of Digit c && is_day (day_of c))
 
-unfoldable pub dated : List ℕ → Dated
-dated c = cond (is_date c) (On (record { 0 = day_of c })) NoDay
+unfoldable pub dated : List ℕ → Option Day
+dated c = cond (is_date c) (Some (record { 0 = day_of c })) None
 
 unfoldable pub before : Day → Day → Bool
 before a b = ltb a.0 b.0

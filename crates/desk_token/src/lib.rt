@@ -3,19 +3,18 @@
 
 ghost use Rattle.std.specs.Prelude.{◌≡◌, length};
 ghost use Rattle.buffers.specs.Lay.{Written};
-ghost use Rattle.token.specs.Step.{exchange, step_of};
-ghost use Rattle.desk_token.specs.Moves.{empty_desk, personalised_of, reset_desk, stepped_desk};
+ghost use Rattle.token.specs.Step.{exchange};
+ghost use Rattle.desk_token.specs.Moves.{empty_desk, personalised_of, reset_desk, stepped_desk, reply_from};
 
 use plans::Note;
-use status::Intake;
-use token::state::{Personalised, Token};
+use status::Unfit;
+use token::state::Token;
 use verdicts::Answered;
 
-// A token, once a personalisation was accepted.
+// The token, once a personalisation was accepted.
 #[derive(Clone, Copy)]
 pub struct Desk {
-    pub held: bool,
-    pub token: Token,
+    pub token: Option<Token>,
 }
 
 // The desk after a turn, and the length of its answer; 0 where nothing is answered.
@@ -29,38 +28,30 @@ impl Desk {
     pub fn none() -> Self
         ensures { result ≡ empty_desk }
     {
-        let token = Token::none();
-        Desk {
-            held: false,
-            token: token,
-        }
+        Desk { token: None }
     }
 
     // With the token of a personalisation, if it was accepted; else as it was.
-    pub fn personalised(self, p: Personalised) -> Self
-        ensures { result ≡ personalised_of self p }
+    #[tactic(auto, unfolding(crate::specs::Moves::personalised_of))]
+    pub fn personalised(self, made: Result<Token, Unfit>) -> Self
+        ensures { result ≡ personalised_of self made }
     {
-        let made = p.made;
-        if let Intake::Unfit = made {
-            return self;
-        }
-        let token = p.token;
-        Desk {
-            held: true,
-            token: token,
+        match made {
+            Ok(token) => Desk { token: Some(token) },
+            Err(Unfit) => self,
         }
     }
 
+    #[tactic(auto, unfolding(crate::specs::Moves::reset_desk))]
     pub fn reset(mut self) -> Self
         ensures { result ≡ reset_desk self }
     {
-        let token = self.token;
-        let next = token.reset();
-        self.token = next;
+        self.token = self.token.map(|token| token.reset());
         self
     }
 
-    // One step of its token; the reply in the buffer.
+    // One step of its token, with what `Token::step` takes, the reply in the buffer; without a token nothing is answered.
+    #[tactic(auto, unfolding(crate::specs::Moves::stepped_desk, crate::specs::Moves::reply_from))]
     pub fn step(
         mut self,
         s: &[u8],
@@ -71,12 +62,13 @@ impl Desk {
         out: &mut [u8],
     ) -> Turn
         ensures desk_value { result.desk ≡ stepped_desk self (exchange s.now note res first.now second.now (length out.old)) }
-        ensures written { Written (step_of self.token (exchange s.now note res first.now second.now (length out.old))).bytes out.old out.new result.len }
+        ensures written { Written (reply_from self (exchange s.now note res first.now second.now (length out.old))) out.old out.new result.len }
     {
-        let token = self.token;
-        let r = token.step(s, note, res, first, second, &mut *out);
-        let next = r.token;
-        self.token = next;
+        let Some(token) = self.token else {
+            return Turn { desk: self, len: 0 };
+        };
+        let r = token.step(s, note, res, first, second, out);
+        self.token = Some(r.token);
         Turn {
             desk: self,
             len: r.len,

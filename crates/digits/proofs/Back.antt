@@ -1,4 +1,5 @@
 -- Reading what was printed gives it back: bytes in hex, digits of a fixed number, decimals. Assumes nothing.
+use Rattle.std.specs.Prelude.{Some}
 use Prim.Native.Nat.{ℕ, zero, suc, ◌+◌, ◌*◌, ◌/◌, ◌%◌, ◌^◌, ◌≤◌, ◌<◌}
 use mathlib.Core.Path.{◌≡◌, refl}
 use mathlib.Core.Bool.{Bool, true, false, ◌&&◌, ◌||◌}
@@ -13,8 +14,6 @@ use Rattle.strings.specs.Bytes.{among, eqbs}
 use Rattle.strings.proofs.Strings.{among_in, among-over}
 use Rattle.digits.specs.declared.number.Radix.{Radix}
 use Rattle.digits.specs.declared.number.Radix.TheVariants.{Ten}
-use Rattle.digits.specs.declared.number.Number.TheVariants.{Is}
-use Rattle.digits.specs.declared.hex.Taken.TheVariants.{Bytes}
 use Rattle.digits.specs.Digits.{base_of, glyph, worth, is_digit, digits, places, decimal, all_digits, value, largest, grown, following, number_of}
 use Rattle.digits.specs.Hex.{pairs, dash, hex_of, bytes_of, is_hex, hex_read, hex_laid}
 use Rattle.digits.proofs.Digits.{base-some, base-most, glyph-low, glyph-high, digits_long}
@@ -84,7 +83,7 @@ hex-half (b ∷ s) = let l = pairs-long (b ∷ s) in rw (← hex-some (b ∷ s) 
 
 -- any list of bytes, where it has room
 module _ (room : ℕ) (s : List ℕ) (o : Octets s) (h : length s ≤ room) where
-  pub hex-read-back : hex_read room (hex_of s) ≡ Bytes (length s)
+  pub hex-read-back : hex_read room (hex_of s) ≡ Some (length s)
   unfolding hex_read
   hex-read-back = rw (hex-good s o, hex-half s, le-leb (length s) room h)
 
@@ -114,14 +113,14 @@ module _ (base : ℕ) (some : 0 < base) (few : base ≤ 16) where
       let m = mod-lt n some in
       rw (value-last base 0 (glyph (n % base)) (digits base k (n / base)), digits_value k (n / base) ((div-lt_iff_lt-mul some).1 l), worth-glyph (n % base) (omega arith)) (div-add-mod' n base)
 
-  digits-read : (k n : ℕ) → 0 < k → n < base ^ k → n ≤ largest → number_of base (digits base k n) ≡ Is n
+  digits-read : (k n : ℕ) → 0 < k → n < base ^ k → n ≤ largest → number_of base (digits base k n) ≡ Some n
   unfolding number_of following grown
   digits-read k n p h m =
       let l = digits_long base k n in
       rw (ne_eqb (length (digits base k n)) 0 (λ e. omega arith), digits-good k n, digits_value k n h, le-leb n largest m)
 
 -- a number printed in so many digits, if it has no more
-pub fixed_back : (radix : Radix) (k n : ℕ) → 0 < k → n < base_of radix ^ k → n ≤ largest → number_of (base_of radix) (digits (base_of radix) k n) ≡ Is n
+pub fixed_back : (radix : Radix) (k n : ℕ) → 0 < k → n < base_of radix ^ k → n ≤ largest → number_of (base_of radix) (digits (base_of radix) k n) ≡ Some n
 fixed_back radix = digits-read (base_of radix) (base-some radix (base_of radix) refl) (base-most radix (base_of radix) refl)
 
 -- as many digits as it takes hold the number
@@ -144,6 +143,6 @@ places-some (suc f) n = go (ltb n 10) refl
     go false q = rw q (omega arith)
 
 -- every number of 64 bits
-pub decimal-back : (n : ℕ) → n ≤ largest → number_of 10 (decimal n) ≡ Is n
+pub decimal-back : (n : ℕ) → n ≤ largest → number_of 10 (decimal n) ≡ Some n
 unfolding decimal
 decimal-back n h = fixed_back Ten (places 19 n) n (places-some 19 n) (places-hold 19 n (omega arith)) h

@@ -1,36 +1,23 @@
 -- A number read digit by digit. Assumes nothing.
-use Prim.Native.Nat.{ℕ, suc, ◌+◌, ◌-◌, ◌*◌, ◌/◌, ◌≤◌, ◌<◌}
+use Rattle.std.specs.Prelude.{Option, Some, None}
+use Prim.Native.Nat.{ℕ, suc, ◌+◌, ◌*◌, ◌≤◌, ◌<◌}
 use mathlib.Core.Path.{◌≡◌, refl, sym, ap, ◌∙◌}
 use mathlib.Core.Bool.{Bool, true, false, not, cond}
 use mathlib.Core.List.{List, [], ◌∷◌}
-use native.Mathlib.Nat.{div-lt_iff_lt-mul, le-div_iff_mul-le, le-mul_of_pos_right}
+use native.Mathlib.Nat.{le-mul_of_pos_right}
 use native.Mathlib.Numerals.{add-one}
 use native.Mathlib.Omega.{arith}
 use lib.Dec.{leb}
 use lib.ListN.{length, drop, get_or, drop_of_length-le}
 use lib.Seq.{drop-cons}
 use borrow.Author.Tests.{leb-true, leb-false, le-leb, lt-leb, not-true, not-false, eq-eqb, ne_eqb}
-use Rattle.digits.specs.declared.number.Number.{Number}
-use Rattle.digits.specs.declared.number.Number.TheVariants.{Is, NoNumber}
 use Rattle.digits.specs.declared.number.Radix.{Radix}
 use Rattle.digits.specs.Digits.{base_of, worth, is_digit, all_digits, value, largest, grown, following, number_of}
 
 -- ---- one digit more
 
-module _ (n base d : ℕ) (h : 0 < base) (k : d < 16) where
-  pub over-most : (largest - d) / base < n → NoNumber ≡ grown (n * base + d)
-  unfolding grown
-  over-most l = let m = (div-lt_iff_lt-mul h).0 l in rw (lt-leb (n * base + d) largest (omega arith))
-
-  pub in-most : n ≤ (largest - d) / base → n * base + d ≤ largest
-  in-most l = let m = (le-div_iff_mul-le h).0 l in omega arith
-
-  pub within-most : n ≤ (largest - d) / base → Is (n * base + d) ≡ grown (n * base + d)
-  unfolding grown
-  within-most l = rw (le-leb (n * base + d) largest (in-most l))
-
 -- what a number that fits is, and what one that does not
-grown-is : (x m : ℕ) → Is m ≡ grown x → (m ≡ x) × (x ≤ largest)
+grown-is : (x m : ℕ) → Some m ≡ grown x → (m ≡ x) × (x ≤ largest)
 unfolding grown
 grown-is x m e = go (leb x largest) refl
   where
@@ -38,7 +25,7 @@ grown-is x m e = go (leb x largest) refl
     go true q = let f = rw q at e in ((cc), leb-true x largest q)
     go false q = let f = rw q at e in absurd (let z : ◌≡◌ {A = ℕ} 0 1 = cc in omega arith)
 
-grown-not : (x : ℕ) → NoNumber ≡ grown x → largest < x
+grown-not : (x : ℕ) → None ≡ grown x → largest < x
 unfolding grown
 grown-not x e = go (leb x largest) refl
   where
@@ -52,31 +39,31 @@ value-from : (base n : ℕ) (s : List ℕ) → 0 < base → n ≤ value base n s
 value-from base n [] h = omega arith
 value-from base n (c ∷ s) h = let k = value-from base (n * base + worth c) s h in let l = le-mul_of_pos_right n h in omega arith
 
-read-end : (base n i : ℕ) (s : List ℕ) → length s ≤ i → n ≤ largest → following base n (drop i s) ≡ Is n
+read-end : (base n i : ℕ) (s : List ℕ) → length s ≤ i → n ≤ largest → following base n (drop i s) ≡ Some n
 unfolding following grown
 read-end base n i s h k = rw (drop_of_length-le s {i = i} h, le-leb n largest k)
 
 module _ (base n : ℕ) (s : List ℕ) (i : ℕ) (b : Bool) (h : i < length s) (e : b ≡ is_digit base (get_or s i 0)) where
-  read_off : not b ≡ true → following base n (drop i s) ≡ NoNumber
+  read_off : not b ≡ true → following base n (drop i s) ≡ None
   unfolding following
   read_off f = rw (drop-cons s i 0 h, ← e, not-true b f)
 
-  read-on : (m : ℕ) → not b ≡ false → Is m ≡ grown (n * base + worth (get_or s i 0)) → following base n (drop i s) ≡ following base m (drop (i + 1) s)
+  read-on : (m : ℕ) → not b ≡ false → Some m ≡ grown (n * base + worth (get_or s i 0)) → following base n (drop i s) ≡ following base m (drop (i + 1) s)
   unfolding following
   read-on m f g = rw (drop-cons s i 0 h, ← e, not-false b f, add-one i, (grown-is (n * base + worth (get_or s i 0)) m g).0)
 
-  read-over : 0 < base → not b ≡ false → NoNumber ≡ grown (n * base + worth (get_or s i 0)) → following base n (drop i s) ≡ NoNumber
+  read-over : 0 < base → not b ≡ false → None ≡ grown (n * base + worth (get_or s i 0)) → following base n (drop i s) ≡ None
   unfolding following grown
   read-over p f g =
       let k = grown-not (n * base + worth (get_or s i 0)) g in
       let l = value-from base (n * base + worth (get_or s i 0)) (drop (suc i) s) p in
       rw (drop-cons s i 0 h, ← e, not-false b f) (go (all_digits base (drop (suc i) s)) (value base (n * base + worth (get_or s i 0)) (drop (suc i) s)) (lt-leb (value base (n * base + worth (get_or s i 0)) (drop (suc i) s)) largest (omega arith)))
     where
-      go : (t : Bool) (v : ℕ) → leb v largest ≡ false → cond t (cond (leb v largest) (Is v) NoNumber) NoNumber ≡ NoNumber
+      go : (t : Bool) (v : ℕ) → leb v largest ≡ false → cond t (cond (leb v largest) (Some v) None) None ≡ None
       go true v q = rw q
       go false v q = refl
 
-pub read_none : (base : ℕ) (s : List ℕ) → length s ≡ 0 → NoNumber ≡ number_of base s
+pub read_none : (base : ℕ) (s : List ℕ) → length s ≡ 0 → None ≡ number_of base s
 unfolding number_of
 read_none base s h = rw (eq-eqb (length s) 0 h)
 
@@ -87,18 +74,18 @@ module _ (radix : Radix) (base n i : ℕ) (s : List ℕ) (known : base ≡ base_
   unfolding number_of
   from_start = rw (← known, ne_eqb (length s) 0 some) inv
 
-  pub end_read : length s ≤ i → n ≤ largest → Is n ≡ number_of (base_of radix) s
+  pub end_read : length s ≤ i → n ≤ largest → Some n ≡ number_of (base_of radix) s
   end_read h k = sym (from_start ∙ read-end base n i s h k)
 
   module _ (b : Bool) (h : i < length s) (e : b ≡ is_digit base (get_or s i 0)) where
-    pub off-read : not b ≡ true → NoNumber ≡ number_of (base_of radix) s
+    pub off-read : not b ≡ true → None ≡ number_of (base_of radix) s
     off-read f = sym (from_start ∙ read_off base n s i b h e f)
 
-    pub over-read : (d : ℕ) (g : Number) → 0 < base → not b ≡ false → d ≡ worth (get_or s i 0) → g ≡ grown (n * base + d) → g ≡ NoNumber → NoNumber ≡ number_of (base_of radix) s
+    pub over-read : (d : ℕ) (g : Option ℕ) → 0 < base → not b ≡ false → d ≡ worth (get_or s i 0) → g ≡ grown (n * base + d) → g ≡ None → None ≡ number_of (base_of radix) s
     over-read d g p f w m t = sym (from_start ∙ read-over base n s i b h e p f (sym t ∙ m ∙ ap (λ (x : ℕ). grown (n * base + x)) w))
 
-    pub on_read : (d m : ℕ) (g : Number) → not b ≡ false → d ≡ worth (get_or s i 0) → g ≡ grown (n * base + d) → g ≡ Is m → following base 0 s ≡ following base m (drop (i + 1) s)
+    pub on_read : (d m : ℕ) (g : Option ℕ) → not b ≡ false → d ≡ worth (get_or s i 0) → g ≡ grown (n * base + d) → g ≡ Some m → following base 0 s ≡ following base m (drop (i + 1) s)
     on_read d m g f w k t = inv ∙ read-on base n s i b h e m f (sym t ∙ k ∙ ap (λ (x : ℕ). grown (n * base + x)) w)
 
-pub grown-most : (m x : ℕ) (g : Number) → g ≡ grown x → g ≡ Is m → m ≤ largest
+pub grown-most : (m x : ℕ) (g : Option ℕ) → g ≡ grown x → g ≡ Some m → m ≤ largest
 grown-most m x g k t = let p = grown-is x m (sym t ∙ k) in omega arith

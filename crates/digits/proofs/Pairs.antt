@@ -1,34 +1,39 @@
 -- Bytes in hex, a pair of digits at a time. Assumes nothing.
+use Rattle.std.specs.Prelude.{Some, None}
 use Prim.Native.Nat.{ℕ, suc, ◌+◌, ◌*◌, ◌/◌, ◌%◌, ◌≤◌, ◌<◌}
-use mathlib.Core.Path.{◌≡◌, refl, sym, ◌∙◌}
-use mathlib.Core.Bool.{Bool, true, false, not, ◌&&◌, ◌||◌}
-use mathlib.Core.List.{List, [], ◌∷◌}
+use mathlib.Core.Path.{◌≡◌, refl, sym, ap}
+use mathlib.Core.Bool.{Bool, true, false, ◌&&◌}
+use mathlib.Core.List.{List, [], ◌∷◌, ◌++◌}
 use native.Mathlib.Numerals.{add-one}
 use native.Mathlib.Omega.{arith}
-use lib.Dec.{eqb, leb}
-use lib.ListN.{length, drop, get_or, set, length-drop, length-set}
-use lib.Seq.{drop-cons}
-use borrow.Author.Tests.{eq-eqb, ne_eqb, lt-leb, le-leb, not-true, not-false}
-use Rattle.strings.specs.Bytes.{eqbs}
-use Rattle.buffers.specs.Lay.{over, Put}
-use Rattle.buffers.specs.Room.{fitting}
-use Rattle.buffers.proofs.Laying.{over_none, over-front, placed, unplaced}
-use Rattle.digits.specs.declared.hex.Taken.TheVariants.{Bytes, NoBytes}
-use Rattle.digits.specs.Digits.{glyph, worth, all_digits}
+use lib.Dec.{leb}
+use lib.ListN.{length, take, drop, get_or, set, length-drop, length-take}
+use lib.Seq.{drop-cons, take-suc, take_all}
+use borrow.Author.Tests.{eq-eqb, ne_eqb, lt-leb, le-leb}
+use Rattle.buffers.specs.declared.Sheet.{Sheet}
+use Rattle.buffers.specs.Lay.{over}
+use Rattle.buffers.specs.Laid.{Laid}
+use Rattle.buffers.proofs.Laying.{over_none, over-front}
+use Rattle.buffers.proofs.Sheets.{laid-as, laid-both, laid-no-room}
+use Rattle.digits.specs.Digits.{glyph, worth}
 use Rattle.digits.specs.Hex.{pairs, dash, hex_of, bytes_of, is_hex, hex_read, hex_laid}
 
 pub pairs-long : (s : List ℕ) → 2 * length s ≡ length (pairs s)
 pairs-long [] = refl
 pairs-long (b ∷ s) = omega (arith, pairs-long s)
 
+pairs-append : (s t : List ℕ) → pairs (s ++ t) ≡ pairs s ++ pairs t
+pairs-append [] t = refl
+pairs-append (b ∷ s) t = ap (λ (l : List ℕ). glyph (b / 16) ∷ glyph (b % 16) ∷ l) (pairs-append s t)
+
 -- one byte more
-pub pairs-on : (at i g h : ℕ) (s o : List ℕ) → i < length s → at + 2 * i + 1 < length o → g ≡ glyph (get_or s i 0 / 16) → h ≡ glyph (get_or s i 0 % 16)
-    → over (at + 2 * i) (pairs (drop i s)) o ≡ over (at + 2 * (i + 1)) (pairs (drop (i + 1) s)) (set (set o (at + 2 * i) g) (at + 2 * i + 1) h)
-pairs-on at i g h s o l m e f =
-    let k : at + 2 * (i + 1) ≡ at + 2 * i + 1 + 1 = omega arith in
-    rw (k, add-one i, drop-cons s i 0 l, e, f)
-    (over-front (at + 2 * i) (glyph (get_or s i 0 / 16)) (glyph (get_or s i 0 % 16) ∷ pairs (drop (suc i) s)) o (omega arith)
-    ∙ over-front (at + 2 * i + 1) (glyph (get_or s i 0 % 16)) (pairs (drop (suc i) s)) (set o (at + 2 * i) (glyph (get_or s i 0 / 16))) (omega (arith, length-set o (at + 2 * i) (glyph (get_or s i 0 / 16)))))
+pub pairs-more : (i g h : ℕ) (s : List ℕ) (x y z : Sheet) → i < length s → x.at + 2 * length s ≤ length x.out.now → g ≡ glyph (get_or s i 0 / 16) → h ≡ glyph (get_or s i 0 % 16)
+    → Laid (pairs (take i s)) x y → Laid (g ∷ h ∷ []) y z → Laid (pairs (take (i + 1) s)) x z
+pairs-more i g h s x y z k l u v p q =
+    let e : pairs (take (i + 1) s) ≡ pairs (take i s) ++ (g ∷ h ∷ []) = rw (add-one i, take-suc s i 0 k, u, v) (pairs-append (take i s) (get_or s i 0 ∷ [])) in
+    let n = pairs-long (take (i + 1) s) in
+    let m = length-take (i + 1) s in
+    laid-as _ _ x z (sym e) (laid-both (pairs (take i s)) (g ∷ h ∷ []) x y z (omega (arith, ap length e)) p q)
 
 pub read-pair : (v w a b : ℕ) → v ≡ worth a → w ≡ worth b → v * 16 + w ≡ worth a * 16 + worth b
 read-pair v w a b e f = rw (e, f)
@@ -56,58 +61,36 @@ pub hex-some : (s : List ℕ) → (length s ≡ 0 → ⊥) → pairs s ≡ hex_o
 unfolding hex_of
 hex-some s h = rw (ne_eqb (length s) 0 h)
 
-pub hex-none : (at r : ℕ) (s o₀ o₁ : List ℕ) → length s ≡ 0 → r ≡ at + length (fitting at dash o₀) → o₁ ≡ over at (fitting at dash o₀) o₀ → Put at (fitting at (hex_of s) o₀) o₀ o₁ r
+pub hex-none : (s : List ℕ) → length s ≡ 0 → dash ≡ hex_of s
 unfolding hex_of
-hex-none at r s o₀ o₁ h e f = rw (eq-eqb (length s) 0 h) (e, f)
+hex-none s h = rw (eq-eqb (length s) 0 h)
 
-module _ (at : ℕ) (s l : List ℕ) (some : length s ≡ 0 → ⊥) where
-  module _ (b : Bool) (f : b ≡ leb (at + 2 * length s) (length l)) where
-    pub hex-placed : (r : ℕ) (o : List ℕ) → b ≡ true → r ≡ at + length (pairs s) → o ≡ over at (pairs s) l → Put at (fitting at (hex_of s) l) l o r
-    hex-placed r o t g h = rw (← hex-some s some) (placed at (2 * length s) b (pairs s) l (pairs-long s) f r o t g h)
+-- the digits of all
+pub hex-put : (i : ℕ) (s : List ℕ) (x y : Sheet) → (length s ≡ 0 → ⊥) → length s ≤ i → Laid (pairs (take i s)) x y → Laid (hex_of s) x y
+hex-put i s x y h l p = rw (← hex-some s h) (rw (take_all i s l) at p)
 
-    pub hex-unplaced : b ≡ false → Put at (fitting at (hex_of s) l) l l at
-    hex-unplaced t = rw (← hex-some s some) (unplaced at (2 * length s) b (pairs s) l (pairs-long s) f t)
-
-  pub hex-large : length l / 2 < length s → Put at (fitting at (hex_of s) l) l l at
-  hex-large h = hex-unplaced false (sym (lt-leb (at + 2 * length s) (length l) (omega arith))) refl
+pub hex-no-room : (s : List ℕ) (x : Sheet) (b : Bool) → (length s ≡ 0 → ⊥) → b ≡ leb (x.at + 2 * length s) (length x.out.now) → b ≡ false → Laid (hex_of s) x x
+hex-no-room s x b h e f = rw (← hex-some s h) (laid-no-room (pairs s) x (2 * length s) b (pairs-long s) e f)
 
 -- ---- a word read
 
-module _ (d g : Bool) (s o : List ℕ) (e : d ≡ eqbs s dash) (f : g ≡ all_digits 16 s) where
-  known : d || (leb 1 (length s) && eqb (length s % 2) 0 && g) ≡ is_hex s
-  unfolding is_hex
-  known = rw (e, f)
+and_no : (b : Bool) → b && false ≡ false
+and_no true = refl
+and_no false = refl
 
-  module _ (h : not (d || (leb 1 (length s) && eqb (length s % 2) 0 && g)) ≡ true) where
-    none : is_hex s ≡ false
-    none = sym known ∙ not-true (d || (leb 1 (length s) && eqb (length s % 2) 0 && g)) h
+module _ (s o : List ℕ) where
+  -- nothing is laid of a word that is not read
+  not_read : is_hex s && leb (length s / 2) (length o) ≡ false → (None ≡ hex_read (length o) s) × (o ≡ over 0 (hex_laid (length o) s) o)
+  unfolding hex_read hex_laid
+  not_read e = (rw e, rw e (over_none 0 o))
 
-    pub word-bad : NoBytes ≡ hex_read (length o) s
-    unfolding hex_read
-    word-bad = rw none
+  pub word-bad : is_hex s ≡ false → (None ≡ hex_read (length o) s) × (o ≡ over 0 (hex_laid (length o) s) o)
+  word-bad e = not_read (rw e)
 
-    pub bad-left : o ≡ over 0 (hex_laid (length o) s) o
-    unfolding hex_laid
-    bad-left = rw none (over_none 0 o)
+  pub word-large : length o < length s / 2 → (None ≡ hex_read (length o) s) × (o ≡ over 0 (hex_laid (length o) s) o)
+  word-large h = not_read (rw (lt-leb (length s / 2) (length o) h) (and_no (is_hex s)))
 
-  module _ (h : not (d || (leb 1 (length s) && eqb (length s % 2) 0 && g)) ≡ false) where
-    good : is_hex s ≡ true
-    good = sym known ∙ not-false (d || (leb 1 (length s) && eqb (length s % 2) 0 && g)) h
-
-    module _ (k : length o < length s / 2) where
-      pub word-large : NoBytes ≡ hex_read (length o) s
-      unfolding hex_read
-      word-large = rw (good, lt-leb (length s / 2) (length o) k)
-
-      pub large-left : o ≡ over 0 (hex_laid (length o) s) o
-      unfolding hex_laid
-      large-left = rw (good, lt-leb (length s / 2) (length o) k) (over_none 0 o)
-
-    module _ (k : length s / 2 ≤ length o) where
-      pub word_read : Bytes (length s / 2) ≡ hex_read (length o) s
-      unfolding hex_read
-      word_read = rw (good, le-leb (length s / 2) (length o) k)
-
-      pub word-laid : (p : List ℕ) → p ≡ over 0 (bytes_of s) o → p ≡ over 0 (hex_laid (length o) s) o
-      unfolding hex_laid
-      word-laid p q = rw (good, le-leb (length s / 2) (length o) k) q
+  pub word_read : is_hex s ≡ true → length s / 2 ≤ length o → (p : List ℕ) → p ≡ over 0 (bytes_of s) o
+      → (Some (length s / 2) ≡ hex_read (length o) s) × (p ≡ over 0 (hex_laid (length o) s) o)
+  unfolding hex_read hex_laid
+  word_read e h p f = (rw (e, le-leb (length s / 2) (length o) h), rw (e, le-leb (length s / 2) (length o) h) f)

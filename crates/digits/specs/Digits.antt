@@ -1,10 +1,8 @@
 -- Numbers by their digits. Assumes nothing: these are definitions.
-use Rattle.std.specs.Prelude.{ℕ, zero, suc, ◌+◌, ◌-◌, ◌*◌, ◌/◌, ◌%◌, Bool, true, cond, ◌&&◌, ◌||◌, List, [], ◌∷◌, ◌++◌, eqb, leb, ltb, length}
+use Rattle.std.specs.Prelude.{ℕ, zero, suc, ◌+◌, ◌-◌, ◌*◌, ◌/◌, ◌%◌, Bool, true, cond, ◌&&◌, ◌||◌, List, [], ◌∷◌, ◌++◌, eqb, leb, ltb, length, Option, Some, None}
 use Rattle.strings.specs.Bytes.{among}
 use Rattle.digits.specs.declared.number.Radix.{Radix}
 use Rattle.digits.specs.declared.number.Radix.TheVariants.{Ten, Sixteen}
-use Rattle.digits.specs.declared.number.Number.{Number}
-use Rattle.digits.specs.declared.number.Number.TheVariants.{Is, NoNumber}
 
 abbrev pub base_of : Radix → ℕ
 base_of Ten = 10
@@ -54,13 +52,13 @@ abbrev pub largest : ℕ
 largest = 0xFFFFFFFFFFFFFFFF
 
 -- a number, if it is no larger
-unfoldable pub grown : ℕ → Number
-grown n = cond (leb n largest) (Is n) NoNumber
+unfoldable pub grown : ℕ → Option ℕ
+grown n = cond (leb n largest) (Some n) None
 
 -- n's digits and then these, where they are digits
-unfoldable pub following : (base n : ℕ) → List ℕ → Number
-following base n s = cond (all_digits base s) (grown (value base n s)) NoNumber
+unfoldable pub following : (base n : ℕ) → List ℕ → Option ℕ
+following base n s = cond (all_digits base s) (grown (value base n s)) None
 
 -- a word of one digit or more
-unfoldable pub number_of : ℕ → List ℕ → Number
-number_of base s = cond (eqb (length s) 0) NoNumber (following base 0 s)
+unfoldable pub number_of : ℕ → List ℕ → Option ℕ
+number_of base s = cond (eqb (length s) 0) None (following base 0 s)

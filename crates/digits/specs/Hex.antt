@@ -1,9 +1,7 @@
 -- Bytes in hex. Assumes nothing: these are definitions.
-use Rattle.std.specs.Prelude.{ℕ, ◌+◌, ◌*◌, ◌/◌, ◌%◌, Bool, cond, ◌&&◌, ◌||◌, List, [], ◌∷◌, eqb, leb, length}
+use Rattle.std.specs.Prelude.{ℕ, ◌+◌, ◌*◌, ◌/◌, ◌%◌, Bool, cond, ◌&&◌, ◌||◌, List, [], ◌∷◌, eqb, leb, length, Option, Some, None}
 use Rattle.strings.specs.Bytes.{eqbs}
 use Rattle.digits.specs.Digits.{glyph, worth, all_digits}
-use Rattle.digits.specs.declared.hex.Taken.{Taken}
-use Rattle.digits.specs.declared.hex.Taken.TheVariants.{Bytes, NoBytes}
 
 -- two digits a byte
 abbrev pub pairs : List ℕ → List ℕ
@@ -32,8 +30,8 @@ abbrev pub readable : ℕ → List ℕ → Bool
 readable room w = is_hex w && leb (length w / 2) room
 
 -- what a word is read as, and what that writes from the buffer's start
-unfoldable pub hex_read : ℕ → List ℕ → Taken
-hex_read room w = cond (readable room w) (Bytes (length w / 2)) NoBytes
+unfoldable pub hex_read : ℕ → List ℕ → Option ℕ
+hex_read room w = cond (readable room w) (Some (length w / 2)) None
 
 unfoldable pub hex_laid : ℕ → List ℕ → List ℕ
 hex_laid room w = cond (readable room w) (bytes_of w) []

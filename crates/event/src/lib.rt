@@ -9,7 +9,7 @@ use run::{Choice, Step};
 use status::Word;
 
 // Why a command changes nothing.
-#[derive(Clone, Copy)]
+#[derive(Clone, Copy, PartialEq, Eq)]
 pub enum Refusal {
     Length,
     Lacking,
@@ -25,21 +25,21 @@ pub enum Refusal {
 }
 
 // How a session is lost.
-#[derive(Clone, Copy)]
+#[derive(Clone, Copy, PartialEq, Eq)]
 pub enum Loss {
     Unprotected,
     Broken,
 }
 
 // A certificate that may have issued another.
-#[derive(Clone, Copy)]
+#[derive(Clone, Copy, PartialEq, Eq)]
 pub enum Issuer {
     Newest,
     Previous,
     Dv,
 }
 
-#[derive(Clone, Copy)]
+#[derive(Clone, Copy, PartialEq, Eq)]
 pub enum Event {
     Refused(Refusal),
     Lost(Loss),
@@ -72,11 +72,11 @@ pub enum Event {
     NotPassed,
 }
 
-impl Refusal {
-    pub fn word(self) -> Word
-        ensures { result ≡ refusal_word self }
-    {
-        match self {
+impl From<Refusal> for Word {
+    ghost from_gives = { λ refusal word. word ≡ refusal_word refusal };
+
+    fn from(refusal: Refusal) -> Word {
+        match refusal {
             Refusal::Length => Word::Length,
             Refusal::Lacking => Word::Lacking,
             Refusal::Blocked => Word::Blocked,
@@ -92,57 +92,55 @@ impl Refusal {
     }
 }
 
-impl Loss {
-    pub fn word(self) -> Word
-        ensures { result ≡ loss_word self }
-    {
-        match self {
+impl From<Loss> for Word {
+    ghost from_gives = { λ loss word. word ≡ loss_word loss };
+
+    fn from(loss: Loss) -> Word {
+        match loss {
             Loss::Unprotected => Word::Unprotected,
             Loss::Broken => Word::Broken,
         }
     }
 }
 
-fn chosen_word(c: Choice, left: u8) -> Word
-    ensures { result ≡ chosen_word c left }
+fn chosen_word(choice: Choice, left: u8) -> Word
+    ensures { result ≡ chosen_word choice left }
 {
-    let pin = c.password().is_pin();
-    if pin & (left < run::TRIES) {
+    if choice.password().is_pin() && left < run::TRIES {
         return Word::Tries(left);
     }
     Word::Done
 }
 
-impl Event {
-    pub fn word(self) -> Word
-        ensures { result ≡ word_of self }
-    {
-        match self {
-            Event::Refused(r) => r.word(),
-            Event::Lost(l) => l.word(),
-            Event::Chosen(c, left) => chosen_word(c, left),
-            Event::StepPassed(_, _) => Word::Done,
-            Event::Opened(_) => Word::Done,
-            Event::RunClosed => Word::NotPassed,
+impl From<Event> for Word {
+    ghost from_gives = { λ event word. word ≡ word_of event };
+
+    #[tactic(auto, unfolding(crate::specs::Event::word_of))]
+    fn from(event: Event) -> Word {
+        match event {
+            Event::Refused(refusal) => refusal.into(),
+            Event::Lost(loss) => loss.into(),
+            Event::Chosen(choice, left) => chosen_word(choice, left),
             Event::TrialLost(left) => Word::Tries(left),
-            Event::Selected(_) => Word::Done,
-            Event::LinkTaken => Word::Done,
-            Event::DvTaken(_) => Word::Done,
-            Event::TerminalTaken => Word::Done,
-            Event::Announced => Word::Done,
-            Event::Challenged => Word::Done,
-            Event::Proven => Word::Done,
-            Event::ProofLost => Word::NotPassed,
-            Event::ChipKeyChosen => Word::Done,
-            Event::Authenticated => Word::Done,
-            Event::ChipLost => Word::NotPassed,
-            Event::ReadAllowed => Word::Done,
-            Event::PinChanged => Word::Done,
-            Event::UnblockedByPuk => Word::Done,
-            Event::UnblockedByRight => Word::Done,
-            Event::Activated => Word::Done,
-            Event::Deactivated => Word::Done,
-            Event::NotPassed => Word::NotPassed,
+            Event::RunClosed | Event::ProofLost | Event::ChipLost | Event::NotPassed =>
+                Word::NotPassed,
+            Event::StepPassed(_, _)
+            | Event::Opened(_)
+            | Event::Selected(_)
+            | Event::LinkTaken
+            | Event::DvTaken(_)
+            | Event::TerminalTaken
+            | Event::Announced
+            | Event::Challenged
+            | Event::Proven
+            | Event::ChipKeyChosen
+            | Event::Authenticated
+            | Event::ReadAllowed
+            | Event::PinChanged
+            | Event::UnblockedByPuk
+            | Event::UnblockedByRight
+            | Event::Activated
+            | Event::Deactivated => Word::Done,
         }
     }
 }

@@ -4,16 +4,12 @@ use Rattle.certificate.specs.declared.Certificate.{Certificate}
 use Rattle.keys.specs.declared.Key.{Key}
 use Rattle.brought.specs.Brought.{brought_none, with_name, with_certificate, with_announced}
 use Rattle.fields.specs.declared.asked.Ask.{Ask}
-use Rattle.fields.specs.declared.asked.Ask.TheVariants.{Bad, Select, Verify, Announce}
+use Rattle.fields.specs.declared.asked.Ask.TheVariants.{Select, Verify, Announce}
 use Rattle.fields.specs.declared.given.Given.{Given}
 
 -- with nothing brought
 unfoldable pub only : Ask → Given
 only a = record { ask = a; brought = brought_none }
-
--- data that are not what the command wants
-abbrev pub bad : Given
-bad = only Bad
 
 -- the issuer's name
 unfoldable pub selecting : Name → Given

@@ -1,20 +1,18 @@
 // What a command may ask for.
-use brought::Brought;
+use super::given::Given;
 use command::kind::Kind;
-use event::Refusal;
 use run::{Choice, Step};
 
 // What a 7C holds: the data of a run step, or of the chip key.
-#[derive(Clone, Copy)]
+#[derive(Clone, Copy, PartialEq, Eq)]
 pub enum Content {
     Step(Step),
     Chip,
 }
 
-// What a command of a known kind asks; Bad where its data are not what its kind wants.
-#[derive(Clone, Copy)]
+// What a command of a known kind asks.
+#[derive(Clone, Copy, PartialEq, Eq)]
 pub enum Ask {
-    Bad,
     Choose(Choice),
     General(Content),
     Select,
@@ -30,15 +28,10 @@ pub enum Ask {
     Deactivate,
 }
 
-#[derive(Clone, Copy)]
-pub enum Request {
-    Refused(Refusal),
-    Asks { kind: Kind, chained: bool, ask: Ask },
-}
-
-// A request with what is brought with it.
+// A command of a known kind, chained or not, and what its data give; nothing where they are not what its kind wants.
 #[derive(Clone, Copy)]
 pub struct Asked {
-    pub request: Request,
-    pub brought: Brought,
+    pub kind: Kind,
+    pub chained: bool,
+    pub given: Option<Given>,
 }

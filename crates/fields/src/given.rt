@@ -15,45 +15,45 @@ pub struct Given {
 }
 
 impl Given {
+    #[tactic(auto, unfolding(crate::specs::Given::only))]
     pub(crate) fn only(ask: Ask) -> Self
         ensures { result ≡ only ask }
     {
-        let brought = Brought::none();
         Given {
-            ask: ask,
-            brought: brought,
+            ask,
+            brought: Brought::none(),
         }
     }
 
+    #[tactic(auto, unfolding(crate::specs::Given::selecting))]
     pub(crate) fn select(name: Name) -> Self
         ensures { result ≡ selecting name }
     {
-        let brought = Brought::none().with_name(name);
         Given {
             ask: Ask::Select,
-            brought: brought,
+            brought: Brought::none().with_name(name),
         }
     }
 
+    #[tactic(auto, unfolding(crate::specs::Given::verifying))]
     pub(crate) fn verify(issuer: Name, certificate: Certificate) -> Self
         ensures { result ≡ verifying issuer certificate }
     {
-        let brought = Brought::none()
-            .with_name(issuer)
-            .with_certificate(certificate);
         Given {
             ask: Ask::Verify,
-            brought: brought,
+            brought: Brought::none()
+                .with_name(issuer)
+                .with_certificate(certificate),
         }
     }
 
+    #[tactic(auto, unfolding(crate::specs::Given::announcing))]
     pub(crate) fn announce(name: Name, key: Key) -> Self
         ensures { result ≡ announcing name key }
     {
-        let brought = Brought::none().with_name(name).with_announced(key);
         Given {
             ask: Ask::Announce,
-            brought: brought,
+            brought: Brought::none().with_name(name).with_announced(key),
         }
     }
 }

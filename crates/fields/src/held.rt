@@ -3,7 +3,6 @@ ghost use Rattle.std.specs.Prelude.{◌≡◌};
 ghost use Rattle.fields.specs.Held.{general_of, held_in};
 
 use super::asked::{Ask, Content};
-use objects::Found;
 use run::Step;
 use strings::STRING;
 use taking::{holds, last};
@@ -12,32 +11,30 @@ use taking::{holds, last};
 const TOKEN: usize = 8;
 
 // What the content of a 7C is.
-fn held(s: &[u8]) -> Ask
+#[tactic(auto, unfolding(crate::specs::Held::held_in))]
+fn held(s: &[u8]) -> Option<Ask>
     ensures { result ≡ held_in s.now }
 {
-    if s.len() == 0 {
-        return Ask::General(Content::Step(Step::Nonce));
-    }
-    if holds(s, 0x81, 1, STRING) {
-        return Ask::General(Content::Step(Step::Map));
-    }
-    if holds(s, 0x83, 1, STRING) {
-        return Ask::General(Content::Step(Step::Agree));
-    }
-    if holds(s, 0x85, TOKEN, TOKEN) {
-        return Ask::General(Content::Step(Step::Confirm));
-    }
-    if holds(s, 0x80, 1, STRING) {
-        return Ask::General(Content::Chip);
-    }
-    Ask::Bad
+    let content = if s.is_empty() {
+        Content::Step(Step::Nonce)
+    } else if holds(s, 0x81, 1, STRING) {
+        Content::Step(Step::Map)
+    } else if holds(s, 0x83, 1, STRING) {
+        Content::Step(Step::Agree)
+    } else if holds(s, 0x85, TOKEN, TOKEN) {
+        Content::Step(Step::Confirm)
+    } else if holds(s, 0x80, 1, STRING) {
+        Content::Chip
+    } else {
+        return None;
+    };
+    Some(Ask::General(content))
 }
 
-pub(crate) fn general(s: &[u8]) -> Ask
+#[tactic(auto, using(crate::proofs::Ways::chains, crate::proofs::Ways::ends), unfolding(crate::specs::Held::general_of))]
+pub(crate) fn general(s: &[u8]) -> Option<Ask>
     ensures { result ≡ general_of s.now }
 {
-    let Found::Content { start, end } = last(objects::find(s, 0x7C, true), s.len()) else {
-        return Ask::Bad;
-    };
-    held(&s[start..end])
+    let found = last(objects::find(s, 0x7C, true), s.len())?;
+    held(&s[found.start..found.end])
 }

@@ -2,12 +2,11 @@
 #![tactic(auto)]
 
 ghost use Rattle.std.specs.Prelude.{◌≡◌};
-ghost use Rattle.fields.specs.Asked.{asked_of, fault_of, data_of, refusing, asking};
+ghost use Rattle.fields.specs.Asked.{asked_of, fault_of, data_of};
 
-use asked::{Ask, Asked, Request};
-use brought::Brought;
+use asked::{Ask, Asked};
 use command::kind::Kind;
-use command::{Fault, Shape};
+use command::{Command, Fault};
 use event::Refusal;
 use given::Given;
 
@@ -15,81 +14,60 @@ mod announce;
 pub mod asked;
 mod chip;
 mod choice;
-mod given;
+pub mod given;
 mod held;
 mod issuers;
 mod plain;
 
-// The refusal of a faulty shape.
+// The refusal of a faulty shape; no `From`, since both types are other crates'.
 fn fault(f: Fault) -> Refusal
     ensures { result ≡ fault_of f }
 {
     match f {
-        Fault::Form => Refusal::Length,
+        Fault::Form | Fault::Presence => Refusal::Length,
         Fault::Class => Refusal::Class,
         Fault::Instruction => Refusal::Instruction,
         Fault::Parameters => Refusal::Parameters,
-        Fault::Presence => Refusal::Length,
     }
 }
 
 // What the data of a command of this kind give.
-fn data(kind: Kind, s: &[u8]) -> Given
+#[tactic(auto, unfolding(crate::specs::Asked::data_of))]
+fn data(kind: Kind, s: &[u8]) -> Option<Given>
     ensures { result ≡ data_of kind s.now }
 {
-    match kind {
-        Kind::ChoosePassword => Given::only(choice::choice(s)),
-        Kind::General => Given::only(held::general(s)),
-        Kind::SelectIssuer => issuers::select(s),
-        Kind::VerifyCertificate => issuers::verify(s),
-        Kind::Announce => announce::announce(s),
-        Kind::Challenge => Given::only(Ask::Challenge),
-        Kind::ProveTerminal => Given::only(plain::proof(s)),
-        Kind::ChooseChipKey => Given::only(chip::chip(s)),
-        Kind::Read(n) => Given::only(Ask::Read(n)),
-        Kind::ChangePin => Given::only(plain::digits(s)),
-        Kind::Unblock => Given::only(Ask::Unblock),
-        Kind::Activate => Given::only(Ask::Activate),
-        Kind::Deactivate => Given::only(Ask::Deactivate),
-    }
-}
-
-fn refused(r: Refusal) -> Asked
-    ensures { result ≡ refusing r }
-{
-    let brought = Brought::none();
-    Asked {
-        request: Request::Refused(r),
-        brought: brought,
-    }
-}
-
-fn asks(kind: Kind, chained: bool, g: Given) -> Asked
-    ensures { result ≡ asking kind chained g }
-{
-    let ask = g.ask;
-    let brought = g.brought;
-    Asked {
-        request: Request::Asks {
-            kind: kind,
-            chained: chained,
-            ask: ask,
-        },
-        brought: brought,
-    }
+    let ask = match kind {
+        Kind::SelectIssuer => return issuers::select(s),
+        Kind::VerifyCertificate => return issuers::verify(s),
+        Kind::Announce => return announce::announce(s),
+        Kind::ChoosePassword => choice::choice(s)?,
+        Kind::General => held::general(s)?,
+        Kind::ProveTerminal => plain::proof(s)?,
+        Kind::ChooseChipKey => chip::chip(s)?,
+        Kind::ChangePin => plain::digits(s)?,
+        Kind::Challenge => Ask::Challenge,
+        Kind::Read(group) => Ask::Read(group),
+        Kind::Unblock => Ask::Unblock,
+        Kind::Activate => Ask::Activate,
+        Kind::Deactivate => Ask::Deactivate,
+    };
+    Some(Given::only(ask))
 }
 
 // What a command asks for, or why it is refused before the token is looked at.
-pub fn asked_of(s: &[u8]) -> Asked
+#[tactic(auto, using(crate::proofs::Ways::bounds), unfolding(crate::specs::Asked::asked_of, crate::specs::Asked::refusing, crate::specs::Asked::asking))]
+pub fn asked_of(s: &[u8]) -> Result<Asked, Refusal>
     ensures { result ≡ asked_of s.now }
 {
-    match command::shape_of(s) {
-        Shape::Faulty(f) => refused(fault(f)),
-        Shape::Command {
-            kind,
-            chained,
-            start,
-            end,
-        } => asks(kind, chained, data(kind, &s[start..end])),
-    }
+    let Command {
+        kind,
+        chained,
+        start,
+        end,
+    } = command::shape_of(s).map_err(fault)?;
+    Ok(Asked {
+        kind,
+        chained,
+        given: data(kind, &s[start..end]),
+    })
 }

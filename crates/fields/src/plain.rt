@@ -8,22 +8,18 @@ use strings::{Class, all};
 // The digits of a PIN.
 const DIGITS: usize = 6;
 
-pub(crate) fn proof(s: &[u8]) -> Ask
+#[tactic(auto, unfolding(crate::specs::Plain::proof_of, bodies::specs::Body::is_signature))]
+pub(crate) fn proof(s: &[u8]) -> Option<Ask>
     ensures { result ≡ proof_of s.now }
 {
-    let n = s.len();
-    if (1 <= n) & (n <= bodies::SIGNATURE) {
-        return Ask::Prove;
-    }
-    Ask::Bad
+    (1..=bodies::SIGNATURE)
+        .contains(&s.len())
+        .then_some(Ask::Prove)
 }
 
-pub(crate) fn digits(s: &[u8]) -> Ask
+#[tactic(auto, unfolding(crate::specs::Plain::pin_of))]
+pub(crate) fn digits(s: &[u8]) -> Option<Ask>
     ensures { result ≡ pin_of s.now }
 {
-    let good = all(Class::Numeral, s);
-    if (s.len() == DIGITS) & good {
-        return Ask::ChangePin;
-    }
-    Ask::Bad
+    (s.len() == DIGITS && all(Class::Numeral, s)).then_some(Ask::ChangePin)
 }

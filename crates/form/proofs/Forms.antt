@@ -1,167 +1,175 @@
 -- The cases of the forms, as the code's tests tell them. Assumes nothing.
+use Rattle.std.specs.Prelude.{Option, Some, None}
 use Prim.Native.Nat.{ℕ, ◌+◌, ◌-◌, ◌<◌, ◌≤◌}
-use mathlib.Core.Path.{◌≡◌, refl, sym, ap, ◌∙◌}
+use mathlib.Core.Path.{◌≡◌, refl, sym, ap, subst, ◌∙◌}
 use mathlib.Core.List.{List, [], ◌∷◌}
 use native.Mathlib.Omega.{arith}
 use mathlib.Core.Bool.{Bool, true, false, cond}
 use lib.Dec.{eqb, leb, ltb}
-use lib.Seq.{get_or-drop, drop-drop}
-use lib.ListN.{length, take, drop, get_or, length-drop}
+use lib.ListN.{length, take, drop, get_or}
 use borrow.Author.Tests.{eq-eqb, ne_eqb, le-leb, lt-leb, le-ltb, lt-ltb, leb-true}
 use Rattle.laws.proofs.Lists.{from}
 use Rattle.laws.proofs.Bools.{of-both}
-use Rattle.form.specs.Form.{command_limit, pair_of, form_of, after_header, after_four, data_then, extended_of, after_short, after_long}
+use Rattle.form.specs.Form.{command_limit, pair_of, form_of, after_header, after_four, data_then, extended_of, after_short, after_long, after, data_by, bytes_of, formed, bare}
 use Rattle.form.specs.declared.Form.{Form}
-use Rattle.form.specs.declared.Form.TheVariants.{Of, Wrong}
-use Rattle.form.specs.declared.Le.{Le}
-use Rattle.form.specs.declared.Le.TheVariants.{Absent, Number}
+use Rattle.form.specs.declared.Lc.{Lc}
+use Rattle.form.specs.declared.Lc.TheVariants.{Short, Extended}
 
-pub short_none : (lc : ℕ) (s : List ℕ) → length s ≡ 0 → Of 5 (5 + lc) Absent ≡ after_short lc s
-unfolding after_short
-short_none lc [] h = refl
-short_none lc (a ∷ s) h = absurd (omega arith)
+-- what follows the data
+module _ (lc : Lc) (r : Option Form) where
+  pub after-none : (s : List ℕ) → length s < 1 → r ≡ formed lc None → r ≡ after lc s
+  unfolding after after_short after_long
+  after-none s h e = go lc s h e
+    where
+      go : (l : Lc) (t : List ℕ) → length t < 1 → r ≡ formed l None → r ≡ after l t
+      go (Short n) [] k f = f
+      go (Extended n) [] k f = f
+      go l (a ∷ t) k f = absurd (omega arith)
 
-pub short-le : (lc x : ℕ) (s : List ℕ) → length s ≡ 1 → x ≡ get_or s 0 0 → Of 5 (5 + lc) (Number x) ≡ after_short lc s
-unfolding after_short
-short-le lc x [] h e = absurd (omega arith)
-short-le lc x (a ∷ []) h e = rw e
-short-le lc x (a ∷ b ∷ s) h e = absurd (omega arith)
+  pub after_one : (n : ℕ) (s : List ℕ) → lc ≡ Short n → 1 ≤ length s → length s < 2 → r ≡ formed lc (Some (get_or s 0 0)) → r ≡ after lc s
+  unfolding after after_short
+  after_one n s e h k f = subst (λ (l : Lc). r ≡ after l s) (sym e) (go s h k (subst (λ (l : Lc). r ≡ formed l (Some (get_or s 0 0))) e f))
+    where
+      go : (t : List ℕ) → 1 ≤ length t → length t < 2 → r ≡ formed (Short n) (Some (get_or t 0 0)) → r ≡ after (Short n) t
+      go [] i j g = absurd (omega arith)
+      go (a ∷ []) i j g = g
+      go (a ∷ b ∷ t) i j g = absurd (omega arith)
 
-pub short-wrong : (lc : ℕ) (s : List ℕ) → (length s ≡ 0 → ⊥) → (length s ≡ 1 → ⊥) → Wrong ≡ after_short lc s
-unfolding after_short
-short-wrong lc [] h k = absurd (h refl)
-short-wrong lc (a ∷ []) h k = absurd (k refl)
-short-wrong lc (a ∷ b ∷ s) h k = refl
+  pub after_two : (n x : ℕ) (s : List ℕ) → lc ≡ Extended n → 2 ≤ length s → length s < 3 → x ≡ pair_of (get_or s 0 0) (get_or s 1 0) → r ≡ formed lc (Some x) → r ≡ after lc s
+  unfolding after after_long
+  after_two n x s e h k v f = subst (λ (l : Lc). r ≡ after l s) (sym e) (go s h k v (subst (λ (l : Lc). r ≡ formed l (Some x)) e f))
+    where
+      go : (t : List ℕ) → 2 ≤ length t → length t < 3 → x ≡ pair_of (get_or t 0 0) (get_or t 1 0) → r ≡ formed (Extended n) (Some x) → r ≡ after (Extended n) t
+      go [] i j w g = absurd (omega arith)
+      go (a ∷ []) i j w g = absurd (omega arith)
+      go (a ∷ b ∷ []) i j w g = g ∙ rw w
+      go (a ∷ b ∷ c ∷ t) i j w g = absurd (omega arith)
 
-pub long-none : (lc : ℕ) (s : List ℕ) → length s ≡ 0 → Of 7 (7 + lc) Absent ≡ after_long lc s
-unfolding after_long
-long-none lc [] h = refl
-long-none lc (a ∷ s) h = absurd (omega arith)
+module _ (lc : Lc) where
+  pub after-short-more : (n : ℕ) (s : List ℕ) → lc ≡ Short n → 2 ≤ length s → None ≡ after lc s
+  unfolding after after_short
+  after-short-more n [] e h = absurd (omega arith)
+  after-short-more n (a ∷ []) e h = absurd (omega arith)
+  after-short-more n (a ∷ b ∷ s) e h = rw e
 
-pub long-le : (lc x : ℕ) (s : List ℕ) → length s ≡ 2 → x ≡ pair_of (get_or s 0 0) (get_or s 1 0) → Of 7 (7 + lc) (Number x) ≡ after_long lc s
-unfolding after_long
-long-le lc x [] h e = absurd (omega arith)
-long-le lc x (a ∷ []) h e = absurd (omega arith)
-long-le lc x (a ∷ b ∷ []) h e = rw e
-long-le lc x (a ∷ b ∷ c ∷ s) h e = absurd (omega arith)
+  pub after-long-one : (n : ℕ) (s : List ℕ) → lc ≡ Extended n → 1 ≤ length s → length s < 2 → None ≡ after lc s
+  unfolding after after_long
+  after-long-one n [] e h k = absurd (omega arith)
+  after-long-one n (a ∷ []) e h k = rw e
+  after-long-one n (a ∷ b ∷ s) e h k = absurd (omega arith)
 
-pub long-wrong : (lc : ℕ) (s : List ℕ) → (length s ≡ 0 → ⊥) → (length s ≡ 2 → ⊥) → Wrong ≡ after_long lc s
-unfolding after_long
-long-wrong lc [] h k = absurd (h refl)
-long-wrong lc (a ∷ []) h k = refl
-long-wrong lc (a ∷ b ∷ []) h k = absurd (k refl)
-long-wrong lc (a ∷ b ∷ c ∷ s) h k = refl
+  pub after-three : (s : List ℕ) → 3 ≤ length s → None ≡ after lc s
+  unfolding after after_short after_long
+  after-three s h = go lc s h
+    where
+      go : (l : Lc) (t : List ℕ) → 3 ≤ length t → None ≡ after l t
+      go (Short n) (a ∷ b ∷ c ∷ t) k = refl
+      go (Extended n) (a ∷ b ∷ c ∷ t) k = refl
+      go l [] k = absurd (omega arith)
+      go l (a ∷ []) k = absurd (omega arith)
+      go l (a ∷ b ∷ []) k = absurd (omega arith)
 
--- the data, whatever follows it
-module _ (after : ℕ → List ℕ → Form) (lc : ℕ) (s : List ℕ) where
-  pub data-in : (r : Form) → lc ≤ length s → r ≡ after lc (take (length s - lc) (drop lc s)) → r ≡ data_then after lc s
-  unfolding data_then
-  data-in r h e = rw (le-leb _ _ h) (e ∙ ap (after lc) (from s lc))
+-- the data, and what follows them
+module _ (s : List ℕ) (r : Option Form) where
+  pub data-in : (lc : Lc) (n : ℕ) (t : List ℕ) → n ≡ bytes_of lc → n ≤ length s → t ≡ take (length s - n) (drop n s) → r ≡ after lc t → r ≡ data_by lc s
+  unfolding data_by data_then after
+  data-in (Short k) n t v h q e = rw (le-leb k (length s) (omega arith)) (e ∙ ap (after_short k) (q ∙ rw v (from s k)))
+  data-in (Extended k) n t v h q e = rw (le-leb k (length s) (omega arith)) (e ∙ ap (after_long k) (q ∙ rw v (from s k)))
 
-  pub data-out : length s < lc → Wrong ≡ data_then after lc s
-  unfolding data_then
-  data-out h = rw (lt-leb _ _ h)
+pub data-out : (lc : Lc) (s : List ℕ) (n : ℕ) → n ≡ bytes_of lc → length s < n → None ≡ data_by lc s
+unfolding data_by data_then
+data-out (Short k) s n v h = rw (lt-leb k (length s) (omega arith))
+data-out (Extended k) s n v h = rw (lt-leb k (length s) (omega arith))
 
-pub ext-short : (s : List ℕ) → length s < 2 → Wrong ≡ extended_of s
+pub ext-short : (s : List ℕ) → length s < 2 → None ≡ extended_of s
 unfolding extended_of
 ext-short [] h = refl
 ext-short (a ∷ []) h = refl
 ext-short (a ∷ b ∷ s) h = absurd (omega arith)
 
-pub ext-le : (n : ℕ) (s : List ℕ) → length s ≡ 2 → n ≡ pair_of (get_or s 0 0) (get_or s 1 0) → Of 4 4 (Number n) ≡ extended_of s
-unfolding extended_of
-ext-le n [] h e = absurd (omega arith)
-ext-le n (a ∷ []) h e = absurd (omega arith)
-ext-le n (a ∷ b ∷ []) h e = rw e
-ext-le n (a ∷ b ∷ c ∷ s) h e = absurd (omega arith)
+-- what follows the first k bytes
+abbrev rest : List ℕ → ℕ → List ℕ
+rest s k = take (length s - k) (drop k s)
 
 module _ (n : ℕ) where
-  pub ext-zero : (s : List ℕ) → 2 ≤ length s → (length s ≡ 2 → ⊥) → n ≡ pair_of (get_or s 0 0) (get_or s 1 0) → n ≡ 0 → Wrong ≡ extended_of s
+  pub ext-le : (s : List ℕ) (r : Option Form) → 2 ≤ length s → length (rest s 2) < 1 → n ≡ pair_of (get_or s 0 0) (get_or s 1 0) → r ≡ bare (Some n) → r ≡ extended_of s
+  unfolding extended_of
+  ext-le [] r h k e f = absurd (omega arith)
+  ext-le (a ∷ []) r h k e f = absurd (omega arith)
+  ext-le (a ∷ b ∷ []) r h k e f = f ∙ rw e
+  ext-le (a ∷ b ∷ c ∷ s) r h k e f = absurd (let z : length (c ∷ s) < 1 = rw (from (a ∷ b ∷ c ∷ s) 2) at k in omega arith)
+
+  pub ext-zero : (s : List ℕ) → 2 ≤ length s → 1 ≤ length (rest s 2) → n ≡ pair_of (get_or s 0 0) (get_or s 1 0) → n ≡ 0 → None ≡ extended_of s
   unfolding extended_of
   ext-zero [] h k e z = absurd (omega arith)
   ext-zero (a ∷ []) h k e z = absurd (omega arith)
-  ext-zero (a ∷ b ∷ []) h k e z = absurd (k refl)
+  ext-zero (a ∷ b ∷ []) h k e z = absurd (omega arith)
   ext-zero (a ∷ b ∷ c ∷ s) h k e z = rw (eq-eqb (pair_of a b) 0 (sym e ∙ z))
 
-  pub ext-long : (s : List ℕ) (r : Form) → 2 ≤ length s → (length s ≡ 2 → ⊥) → n ≡ pair_of (get_or s 0 0) (get_or s 1 0) → (n ≡ 0 → ⊥)
-      → r ≡ data_then after_long n (take (length s - 2) (drop 2 s)) → r ≡ extended_of s
-  unfolding extended_of
+  pub ext-long : (s : List ℕ) (r : Option Form) → 2 ≤ length s → 1 ≤ length (rest s 2) → n ≡ pair_of (get_or s 0 0) (get_or s 1 0) → (n ≡ 0 → ⊥)
+      → r ≡ data_by (Extended n) (rest s 2) → r ≡ extended_of s
+  unfolding extended_of data_by
   ext-long [] r h k e z q = absurd (omega arith)
   ext-long (a ∷ []) r h k e z q = absurd (omega arith)
-  ext-long (a ∷ b ∷ []) r h k e z q = absurd (k refl)
+  ext-long (a ∷ b ∷ []) r h k e z q = absurd (omega arith)
   ext-long (a ∷ b ∷ c ∷ s) r h k e z q =
       rw (ne_eqb (pair_of a b) 0 (λ y. z (e ∙ y))) (q ∙ ap (data_then after_long n) (from (a ∷ b ∷ c ∷ s) 2) ∙ ap (λ (m : ℕ). data_then after_long m (c ∷ s)) e)
 
--- the whole form, over the number of bytes
-under : (s : List ℕ) → length s ≤ command_limit → form_of s ≡ after_header s
-unfolding form_of
-under s h = rw (le-ltb _ _ h)
+-- after the header
+module _ (r : Option Form) where
+  pub four-none : (s : List ℕ) → length s < 1 → r ≡ bare None → r ≡ after_four s
+  unfolding after_four
+  four-none [] h e = e
+  four-none (a ∷ s) h e = absurd (omega arith)
 
-pub form-over : (s : List ℕ) → command_limit < length s → Wrong ≡ form_of s
+  pub four-le : (s : List ℕ) → 1 ≤ length s → length s < 2 → r ≡ bare (Some (get_or s 0 0)) → r ≡ after_four s
+  unfolding after_four
+  four-le [] h k e = absurd (omega arith)
+  four-le (a ∷ []) h k e = e
+  four-le (a ∷ b ∷ s) h k e = absurd (omega arith)
+
+  pub four-extended : (s : List ℕ) → 2 ≤ length s → get_or s 0 0 ≡ 0 → r ≡ extended_of (rest s 1) → r ≡ after_four s
+  unfolding after_four
+  four-extended [] h z e = absurd (omega arith)
+  four-extended (a ∷ []) h z e = absurd (omega arith)
+  four-extended (a ∷ b ∷ s) h z e = rw (eq-eqb a 0 z) (e ∙ ap extended_of (from (a ∷ b ∷ s) 1))
+
+  pub four-short : (s : List ℕ) → 2 ≤ length s → (get_or s 0 0 ≡ 0 → ⊥) → r ≡ data_by (Short (get_or s 0 0)) (rest s 1) → r ≡ after_four s
+  unfolding after_four data_by
+  four-short [] h z e = absurd (omega arith)
+  four-short (a ∷ []) h z e = absurd (omega arith)
+  four-short (a ∷ b ∷ s) h z e = rw (ne_eqb a 0 z) (e ∙ ap (data_then after_short a) (from (a ∷ b ∷ s) 1))
+
+  -- the whole form, over the number of bytes
+  pub form-head : (s : List ℕ) → 4 ≤ length s → length s ≤ command_limit → r ≡ after_four (rest s 4) → r ≡ form_of s
+  unfolding form_of after_header
+  form-head [] h k e = absurd (omega arith)
+  form-head (a ∷ []) h k e = absurd (omega arith)
+  form-head (a ∷ b ∷ []) h k e = absurd (omega arith)
+  form-head (a ∷ b ∷ c ∷ []) h k e = absurd (omega arith)
+  form-head (a ∷ b ∷ c ∷ d ∷ s) h k e = rw (le-ltb _ _ k) (e ∙ ap after_four (from (a ∷ b ∷ c ∷ d ∷ s) 4))
+
+pub form-over : (s : List ℕ) → command_limit < length s → None ≡ form_of s
 unfolding form_of
 form-over s h = rw (lt-ltb _ _ h)
 
-pub form-few : (s : List ℕ) → length s < 4 → Wrong ≡ form_of s
-unfolding after_header
-form-few [] h = rw (under [] (omega arith))
-form-few (a ∷ []) h = rw (under (a ∷ []) (omega arith))
-form-few (a ∷ b ∷ []) h = rw (under (a ∷ b ∷ []) (omega arith))
-form-few (a ∷ b ∷ c ∷ []) h = rw (under (a ∷ b ∷ c ∷ []) (omega arith))
+pub form-few : (s : List ℕ) → length s < 4 → None ≡ form_of s
+unfolding form_of after_header
+form-few [] h = refl
+form-few (a ∷ []) h = refl
+form-few (a ∷ b ∷ []) h = refl
+form-few (a ∷ b ∷ c ∷ []) h = refl
 form-few (a ∷ b ∷ c ∷ d ∷ s) h = absurd (omega arith)
 
-headed : (s : List ℕ) → 4 ≤ length s → after_header s ≡ after_four (drop 4 s)
-unfolding after_header
-headed [] h = absurd (omega arith)
-headed (a ∷ []) h = absurd (omega arith)
-headed (a ∷ b ∷ []) h = absurd (omega arith)
-headed (a ∷ b ∷ c ∷ []) h = absurd (omega arith)
-headed (a ∷ b ∷ c ∷ d ∷ s) h = refl
-
-pub form-head : (s : List ℕ) → length s ≡ 4 → Of 4 4 Absent ≡ form_of s
-unfolding after_four
-form-head s h = rw (under s (omega arith), headed s (omega arith)) (none (drop 4 s) (simp length-drop (omega arith)))
-  where
-    none : (l : List ℕ) → length l ≡ 0 → Of 4 4 Absent ≡ after_four l
-    none [] h = refl
-    none (a ∷ l) h = absurd (omega arith)
-
-pub form-le : (x : ℕ) (s : List ℕ) → length s ≡ 5 → x ≡ get_or s 4 0 → Of 4 4 (Number x) ≡ form_of s
-unfolding after_four
-form-le x [] h e = absurd (omega arith)
-form-le x (a ∷ []) h e = absurd (omega arith)
-form-le x (a ∷ b ∷ []) h e = absurd (omega arith)
-form-le x (a ∷ b ∷ c ∷ []) h e = absurd (omega arith)
-form-le x (a ∷ b ∷ c ∷ d ∷ []) h e = absurd (omega arith)
-form-le x (a ∷ b ∷ c ∷ d ∷ n ∷ []) h e = rw (under (a ∷ b ∷ c ∷ d ∷ n ∷ []) (omega arith), headed (a ∷ b ∷ c ∷ d ∷ n ∷ []) (omega arith), e)
-form-le x (a ∷ b ∷ c ∷ d ∷ n ∷ m ∷ s) h e = absurd (omega arith)
-
-four-more : (s : List ℕ) → 1 < length s → after_four s ≡ cond (eqb (get_or s 0 0) 0) (extended_of (drop 1 s)) (data_then after_short (get_or s 0 0) (drop 1 s))
-unfolding after_four
-four-more [] h = absurd (omega arith)
-four-more (n ∷ []) h = absurd (omega arith)
-four-more (n ∷ m ∷ s) h = refl
-
-more : (s : List ℕ) → 5 < length s → length s ≤ command_limit → form_of s ≡ cond (eqb (get_or s 4 0) 0) (extended_of (drop 5 s)) (data_then after_short (get_or s 4 0) (drop 5 s))
-more s h k =
-    under s k ∙ headed s (omega arith) ∙ four-more (drop 4 s) (simp length-drop (omega arith))
-    ∙ rw (get_or-drop, drop-drop)
-
-module _ (s : List ℕ) (r : Form) (h : 4 ≤ length s) (h4 : length s ≡ 4 → ⊥) (h5 : length s ≡ 5 → ⊥) (k : length s ≤ command_limit) where
-  pub form-extended : get_or s 4 0 ≡ 0 → r ≡ extended_of (take (length s - 5) (drop 5 s)) → r ≡ form_of s
-  form-extended z e = rw (more s (omega arith) k, z) (e ∙ ap extended_of (from s 5))
-
-  pub form-short : (get_or s 4 0 ≡ 0 → ⊥) → r ≡ data_then after_short (get_or s 4 0) (take (length s - 5) (drop 5 s)) → r ≡ form_of s
-  form-short z e = rw (more s (omega arith) k, ne_eqb (get_or s 4 0) 0 z) (e ∙ ap (data_then after_short (get_or s 4 0)) (from s 5))
-
-pub ruleset forms = (short_none, short-le, short-wrong, long-none, long-le, long-wrong, data-in, data-out, ext-short, ext-le, ext-zero, ext-long, form-over, form-few, form-head, form-le, form-extended, form-short)
+pub ruleset forms = (after-none, after_one, after_two, after-short-more, after-long-one, after-three, ext-short, ext-le, ext-zero, ext-long, four-none, four-le, four-extended, four-short, form-head, form-over, form-few)
 
 -- ---- the data lies in the command, after the header
 
-pub data FormIn (n : ℕ) : Form → Type 0 where
-  no-form : FormIn n Wrong
-  form-of : (a e : ℕ) {le : Le} → 4 ≤ a → a ≤ e → e ≤ n → FormIn n (Of a e le)
+pub data FormIn (n : ℕ) : Option Form → Type 0 where
+  no-form : FormIn n None
+  form-of : (a e : ℕ) {le : Option ℕ} → 4 ≤ a → a ≤ e → e ≤ n → FormIn n (Some (record { start = a; end = e; le = le }))
 
-pub form-sizes : {n a e : ℕ} {le : Le} → FormIn n (Of a e le) → (4 ≤ a) × (a ≤ e) × (e ≤ n)
+pub form-sizes : {n : ℕ} {f : Form} → FormIn n (Some f) → (4 ≤ f.start) × (f.start ≤ f.end) × (f.end ≤ n)
 form-sizes (form-of a e o p q) = (o, p, q)
 
 after-short-in : (n lc : ℕ) (s : List ℕ) → 5 + lc ≤ n → FormIn n (after_short lc s)
@@ -178,12 +186,12 @@ after-long-in n lc (a ∷ b ∷ []) h = form-of 7 (7 + lc) (omega arith) (omega 
 after-long-in n lc (a ∷ b ∷ c ∷ s) h = no-form
 
 -- data that starts at k
-data-form : (after : ℕ → List ℕ → Form) (n k lc : ℕ) (s : List ℕ) → ((t : List ℕ) → k + lc ≤ n → FormIn n (after lc t)) → k + length s ≤ n
+data-form : (after : ℕ → List ℕ → Option Form) (n k lc : ℕ) (s : List ℕ) → ((t : List ℕ) → k + lc ≤ n → FormIn n (after lc t)) → k + length s ≤ n
     → FormIn n (data_then after lc s)
 unfolding data_then
 data-form after n k lc s i h = go (leb lc (length s)) refl
   where
-    go : (b : Bool) → leb lc (length s) ≡ b → FormIn n (cond b (after lc (drop lc s)) Wrong)
+    go : (b : Bool) → leb lc (length s) ≡ b → FormIn n (cond b (after lc (drop lc s)) None)
     go true e = i (drop lc s) (let l = leb-true lc (length s) e in omega arith)
     go false e = no-form
 

@@ -2,152 +2,122 @@
 #![tactic(auto)]
 
 ghost use Rattle.std.specs.Prelude.{◌≡◌};
-ghost use Rattle.form.specs.Form.{form_of, data_then, extended_of, after_short, after_long, pair_of};
+ghost use Rattle.form.specs.Form.{form_of, data_by, after, after_four, extended_of, bare, bytes_of, formed, pair_of};
 
 // The bytes of a command, at most.
 pub const COMMAND: usize = 1024;
 
-// The number that the field Le holds, one byte or two.
-#[derive(Clone, Copy)]
-pub enum Le {
-    Absent,
-    Number(u16),
+// Where data stands, from start up to end (nowhere if both are 4), and Le.
+#[derive(Clone, Copy, PartialEq, Eq)]
+pub struct Form {
+    pub start: usize,
+    pub end: usize,
+    pub le: Option<u16>,
 }
 
-// Where data stands, from start up to end (nowhere if both are 4), and Le.
-#[derive(Clone, Copy)]
-pub enum Form {
-    Of { start: usize, end: usize, le: Le },
-    Wrong,
+// The number of the data's bytes, of one byte, or of two after 00.
+#[derive(Clone, Copy, PartialEq, Eq)]
+enum Lc {
+    Short(u8),
+    Extended(u16),
+}
+
+impl Lc {
+    fn bytes(self) -> usize
+        ensures { result ≡ bytes_of self }
+    {
+        match self {
+            Lc::Short(n) => n as usize,
+            Lc::Extended(n) => n as usize,
+        }
+    }
+
+    // The form of these data with this Le.
+    fn form(self, le: Option<u16>) -> Option<Form>
+        ensures { result ≡ formed self le }
+    {
+        let start = match self {
+            Lc::Short(_) => 5,
+            Lc::Extended(_) => 7,
+        };
+        Some(Form {
+            start,
+            end: start + self.bytes(),
+            le,
+        })
+    }
 }
 
 // Two bytes, highest first.
 pub fn pair(a: u8, b: u8) -> u16
     ensures { result ≡ pair_of a b }
 {
-    (a as u16) * 256 + (b as u16)
+    u16::from_be_bytes([a, b])
 }
 
-fn single(a: u8) -> u16
-    ensures { result ≡ a }
+// A form without data.
+fn bare(le: Option<u16>) -> Option<Form>
+    ensures { result ≡ bare le }
 {
-    a as u16
+    Some(Form {
+        start: 4,
+        end: 4,
+        le,
+    })
 }
 
-// What follows the data of a short form.
-fn after_short(s: &[u8], lc: u8) -> Form
-    ensures { result ≡ after_short lc s.now }
+// What follows the data: nothing, or an Le of as many bytes as their Lc has.
+fn after(lc: Lc, s: &[u8]) -> Option<Form>
+    ensures { result ≡ after lc s.now }
 {
-    let end = 5 + lc as usize;
-    if s.len() == 0 {
-        return Form::Of {
-            start: 5,
-            end: end,
-            le: Le::Absent,
-        };
+    match (lc, s) {
+        (_, []) => lc.form(None),
+        (Lc::Short(_), [e]) => lc.form(Some(*e as u16)),
+        (Lc::Extended(_), [d, e]) => lc.form(Some(pair(*d, *e))),
+        _ => None,
     }
-    if s.len() == 1 {
-        return Form::Of {
-            start: 5,
-            end: end,
-            le: Le::Number(single(s[0])),
-        };
-    }
-    Form::Wrong
 }
 
-// What follows the data of an extended form.
-fn after_long(s: &[u8], lc: u16) -> Form
-    ensures { result ≡ after_long lc s.now }
+// The data, then what follows them.
+fn data_then(lc: Lc, s: &[u8]) -> Option<Form>
+    ensures { result ≡ data_by lc s.now }
 {
-    let end = 7 + lc as usize;
-    if s.len() == 0 {
-        return Form::Of {
-            start: 7,
-            end: end,
-            le: Le::Absent,
-        };
-    }
-    if s.len() == 2 {
-        return Form::Of {
-            start: 7,
-            end: end,
-            le: Le::Number(pair(s[0], s[1])),
-        };
-    }
-    Form::Wrong
-}
-
-// The data of a short form, then what follows it.
-fn short(s: &[u8], lc: u8) -> Form
-    ensures { result ≡ data_then after_short lc s.now }
-{
-    let n = lc as usize;
-    if n <= s.len() {
-        return after_short(&s[n..], lc);
-    }
-    Form::Wrong
-}
-
-// The data of an extended form, then what follows it.
-fn long(s: &[u8], lc: u16) -> Form
-    ensures { result ≡ data_then after_long lc s.now }
-{
-    let n = lc as usize;
-    if n <= s.len() {
-        return after_long(&s[n..], lc);
-    }
-    Form::Wrong
+    after(lc, s.get(lc.bytes()..)?)
 }
 
 // What follows a fifth byte 00.
-fn extended(s: &[u8]) -> Form
+fn extended(s: &[u8]) -> Option<Form>
     ensures { result ≡ extended_of s.now }
 {
-    if s.len() < 2 {
-        return Form::Wrong;
+    let [d, e, rest @ ..] = s else {
+        return None;
+    };
+    let n = pair(*d, *e);
+    match (n, rest) {
+        (_, []) => bare(Some(n)),
+        (0, _) => None,
+        _ => data_then(Lc::Extended(n), rest),
     }
-    let n = pair(s[0], s[1]);
-    if s.len() == 2 {
-        return Form::Of {
-            start: 4,
-            end: 4,
-            le: Le::Number(n),
-        };
+}
+
+// What follows the four header bytes: nothing, Le, or a fifth byte with what follows.
+fn after_header(s: &[u8]) -> Option<Form>
+    ensures { result ≡ after_four s.now }
+{
+    match s {
+        [] => bare(None),
+        [le] => bare(Some(*le as u16)),
+        [0, rest @ ..] => extended(rest),
+        [lc, rest @ ..] => data_then(Lc::Short(*lc), rest),
     }
-    if n == 0 {
-        return Form::Wrong;
-    }
-    long(&s[2..], n)
 }
 
 // The form by the number of bytes and the fifth.
-pub fn form_of(s: &[u8]) -> Form
+pub fn form_of(s: &[u8]) -> Option<Form>
     ensures { result ≡ form_of s.now }
 {
-    if COMMAND < s.len() {
-        return Form::Wrong;
+    match s {
+        [_, _, _, _, rest @ ..] if s.len() <= COMMAND => after_header(rest),
+        _ => None,
     }
-    if s.len() < 4 {
-        return Form::Wrong;
-    }
-    if s.len() == 4 {
-        return Form::Of {
-            start: 4,
-            end: 4,
-            le: Le::Absent,
-        };
-    }
-    let fifth = s[4];
-    if s.len() == 5 {
-        return Form::Of {
-            start: 4,
-            end: 4,
-            le: Le::Number(single(fifth)),
-        };
-    }
-    if fifth == 0 {
-        return extended(&s[5..]);
-    }
-    short(&s[5..], fifth)
 }

@@ -2,40 +2,38 @@
 #![tactic(auto)]
 
 ghost use Rattle.std.specs.Prelude.{◌≡◌, ◌≤◌, length};
-ghost use Rattle.buffers.specs.Lay.{Put};
-ghost use Rattle.buffers.specs.Room.{fitting};
+ghost use Rattle.buffers.specs.Laid.{Laid};
 ghost use Rattle.headers.specs.Encode.{tag_bytes, length_bytes, header, size_of, object_of};
 
-use buffers::has_room;
+use buffers::Sheet;
 
-// The least lengths that stand after 81 and after 82, and the longest content that a length can say.
+// The least lengths that stand after 81 and after 82.
 const AFTER_81: u16 = 128;
 
 const AFTER_82: u16 = 256;
 
-const LONGEST: usize = 65535;
-
+#[tactic(auto, unfolding(crate::specs::Encode::tag_bytes))]
 fn tag_size(tag: u16) -> usize
     ensures { (result ≤ 2) × (result ≡ length (tag_bytes tag)) }
 {
-    if tag < 256 {
-        return 1;
-    }
-    2
+    if tag < 256 { 1 } else { 2 }
 }
 
+// It asks what `put_length` asks again: how long a header is has to be known before anything is written.
+#[tactic(auto, unfolding(crate::specs::Encode::length_bytes))]
 fn length_size(n: u16) -> usize
     ensures { (result ≤ 3) × (result ≡ length (length_bytes n)) }
 {
     if n < AFTER_81 {
-        return 1;
+        1
+    } else if n < AFTER_82 {
+        2
+    } else {
+        3
     }
-    if n < AFTER_82 {
-        return 2;
-    }
-    3
 }
 
+#[tactic(auto, unfolding(crate::specs::Encode::header))]
 fn header_size(tag: u16, n: u16) -> usize
     ensures { (result ≤ 5) × (result ≡ length (header tag n)) }
 {
@@ -49,56 +47,51 @@ pub fn object_size(tag: u16, n: u16) -> usize
     header_size(tag, n) + n as usize
 }
 
-fn put_tag(out: &mut [u8], at: usize, tag: u16) -> usize
-    ensures { Put at (fitting at (tag_bytes tag) out.old) out.old out.new result }
+#[tactic(auto, unfolding(crate::specs::Encode::tag_bytes))]
+fn put_tag(sheet: &mut Sheet, tag: u16)
+    ensures { Laid (tag_bytes tag) sheet.old sheet.new }
 {
     if tag < 256 {
-        let one = [tag as u8];
-        return buffers::put(&mut *out, at, &one);
+        sheet.put(&[tag as u8]);
+    } else {
+        sheet.put(&tag.to_be_bytes());
     }
-    let two = [(tag / 256) as u8, (tag % 256) as u8];
-    buffers::put(&mut *out, at, &two)
 }
 
-fn put_length(out: &mut [u8], at: usize, n: u16) -> usize
-    ensures { Put at (fitting at (length_bytes n) out.old) out.old out.new result }
+#[tactic(auto, unfolding(crate::specs::Encode::length_bytes))]
+fn put_length(sheet: &mut Sheet, n: u16)
+    ensures { Laid (length_bytes n) sheet.old sheet.new }
 {
     if n < AFTER_81 {
-        let one = [n as u8];
-        return buffers::put(&mut *out, at, &one);
+        sheet.put(&[n as u8]);
+    } else if n < AFTER_82 {
+        sheet.put(&[0x81, n as u8]);
+    } else {
+        let [high, low] = n.to_be_bytes();
+        sheet.put(&[0x82, high, low]);
     }
-    if n < AFTER_82 {
-        let two = [0x81, n as u8];
-        return buffers::put(&mut *out, at, &two);
-    }
-    let three = [0x82, (n / 256) as u8, (n % 256) as u8];
-    buffers::put(&mut *out, at, &three)
 }
 
-// The tag, and the length of a content of n bytes; the place after them.
-pub fn put_header(out: &mut [u8], at: usize, tag: u16, n: u16) -> usize
-    ensures { Put at (fitting at (header tag n) out.old) out.old out.new result }
+// The tag, and the length of a content of n bytes.
+#[tactic(auto, unfolding(crate::specs::Encode::header))]
+pub fn put_header(sheet: &mut Sheet, tag: u16, n: u16)
+    ensures { Laid (header tag n) sheet.old sheet.new }
 {
-    let size = header_size(tag, n);
-    if has_room(out.len(), at, size) {
-        let next = put_tag(&mut *out, at, tag);
-        return put_length(&mut *out, next, n);
+    if sheet.has_room(header_size(tag, n)) {
+        put_tag(sheet, tag);
+        put_length(sheet, n);
     }
-    at
 }
 
-// An object with this content; the place after it.
-pub fn put_object(out: &mut [u8], at: usize, tag: u16, src: &[u8]) -> usize
-    ensures { Put at (fitting at (object_of tag src.now) out.old) out.old out.new result }
+// An object with this content, if a length says how long that is.
+pub fn put_object(sheet: &mut Sheet, tag: u16, src: &[u8])
+    ensures { Laid (object_of tag src.now) sheet.old sheet.new }
 {
-    if LONGEST < src.len() {
-        return at;
+    let Ok(n) = u16::try_from(src.len()) else {
+        return;
+    };
+    if sheet.has_room(object_size(tag, n)) {
+        put_header(sheet, tag, n);
+        sheet.put(src);
     }
-    let n = src.len() as u16;
-    let size = object_size(tag, n);
-    if has_room(out.len(), at, size) {
-        let next = put_header(&mut *out, at, tag, n);
-        return buffers::put(&mut *out, next, src);
-    }
-    at
 }

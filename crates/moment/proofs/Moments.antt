@@ -1,5 +1,4 @@
 -- The moment of each kind, over plain values. Assumes nothing.
-use borrow.Author.Rules.{rules}
 use Prim.Native.Nat.{ℕ}
 use mathlib.Core.Bool.{Bool, true, false, not, ◌&&◌, ◌||◌}
 use mathlib.Core.Path.{◌≡◌}
@@ -76,5 +75,3 @@ module _ (z : Session) (ch : Bool) (x : Kind) where
     pub at-deactivate : x ≡ Deactivate → leb 1 k ≡ moment_of z x ch
     unfolding moment_of
     at-deactivate e = rw (e, f)
-
-pub ruleset moments = (run-fourth, run-earlier, at-choose, at-general, at-select, at-verify, at-announce, at-challenge, at-prove, at-chip, at_read_lem, at-change, at-unblock, at-activate, at-deactivate, rules)

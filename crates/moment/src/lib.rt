@@ -5,54 +5,42 @@ ghost use Rattle.std.specs.Prelude.{◌≡◌};
 ghost use Rattle.moment.specs.Moment.{general_moment, moment_of};
 
 use command::kind::Kind;
-use session::Session;
-use standing::{Stage, has_rights};
+use session::{Context, Session};
+use standing::Stage;
 
 // CLA 10 for steps 1 to 3, 00 for the fourth and for the chip key.
 fn general(stage: Stage, chained: bool) -> bool
     ensures { result ≡ general_moment stage chained }
 {
     match stage {
-        Stage::Run(_, step) => {
-            if step.is_last() {
-                return !chained;
-            }
-            chained
-        }
-        Stage::Idle => false,
-        Stage::Announced => false,
-        Stage::Challenged => false,
-        Stage::Proven => false,
+        Stage::Run(_, step) => chained != step.is_last(),
         Stage::ChipKeyChosen => !chained,
-        Stage::Authenticated => false,
+        _ => false,
     }
 }
 
+#[tactic(auto, unfolding(crate::specs::Moment::moment_of))]
 pub fn moment(session: Session, kind: Kind, chained: bool) -> bool
     ensures { result ≡ moment_of session kind chained }
 {
-    let c = session.context;
-    let confirmed = c.confirmed;
-    let chain = c.chain;
-    let stage = c.stage;
-    let selected = session.selected;
-    let rank = stage.rank();
-    let no_run = Stage::IDLE <= rank;
-    let unproven = no_run & (rank <= Stage::CHALLENGED);
-    let rights = has_rights(confirmed);
+    let Context {
+        confirmed,
+        chain,
+        stage,
+        ..
+    } = session.context;
+    // both that need confirmed rights and a terminal not yet proven
+    let certifies = confirmed.is_some() && stage.unproven();
     match kind {
         Kind::ChoosePassword => true,
         Kind::General => general(stage, chained),
-        Kind::SelectIssuer => rights & unproven,
-        Kind::VerifyCertificate => rights & unproven & selected.stands(),
-        Kind::Announce => chain.has_terminal() & unproven,
-        Kind::Challenge => (rank == Stage::ANNOUNCED) | (rank == Stage::CHALLENGED),
-        Kind::ProveTerminal => rank == Stage::CHALLENGED,
-        Kind::ChooseChipKey => (rank == Stage::PROVEN) | (rank == Stage::CHOSEN),
-        Kind::Read(_) => no_run,
-        Kind::ChangePin => no_run,
-        Kind::Unblock => no_run,
-        Kind::Activate => no_run,
-        Kind::Deactivate => no_run,
+        Kind::SelectIssuer => certifies,
+        Kind::VerifyCertificate => certifies && session.selected.is_some(),
+        Kind::Announce => chain.has_terminal() && stage.unproven(),
+        Kind::Challenge => matches!(stage, Stage::Announced | Stage::Challenged),
+        Kind::ProveTerminal => matches!(stage, Stage::Challenged),
+        Kind::ChooseChipKey => matches!(stage, Stage::Proven | Stage::ChipKeyChosen),
+        Kind::Read(_) | Kind::ChangePin | Kind::Unblock | Kind::Activate | Kind::Deactivate =>
+            stage.no_run(),
     }
 }

@@ -21,7 +21,7 @@ pub name-bytes : (c : List ℕ) → is_name c ≡ true → name_bytes (name_of c
 unfolding name_of
 name-bytes c h = kept (replicate places 0) c (name-room c h)
 
-name-short : (c : List ℕ) → is_name c ≡ true → leb (name_of c).len places ≡ true
+name-short : (c : List ℕ) → is_name c ≡ true → leb (name_of c).0.len places ≡ true
 unfolding name_of
 name-short c h = le-leb (min (length c) places) places (omega arith)
 

@@ -1,6 +1,7 @@
 -- "Names: two letters A-Z, 1 to 9 bytes 20..7E or A0..FF, five of 0-9 or A-Z." Assumes nothing: these are definitions.
-use Rattle.std.specs.Prelude.{ℕ, ◌+◌, ◌-◌, min, List, Bool, ◌&&◌, length, take, drop, replicate, leb}
-use Rattle.strings.specs.Bytes.{eqbs, among, all_of, padded}
+use Rattle.std.specs.Prelude.{ℕ, ◌+◌, ◌-◌, List, Bool, ◌&&◌, length, take, drop, leb}
+use Rattle.strings.specs.Bytes.{eqbs, among, all_of}
+use Rattle.strings.specs.Kept.{kept_none, kept_of, kept_bytes}
 use Rattle.strings.specs.declared.Class.TheVariants.{Letter, Latin, Serial}
 use Rattle.names.specs.declared.Name.{Name}
 
@@ -16,18 +17,18 @@ is_name c =
 
 -- a name taken from a string: zeros follow it
 unfoldable pub name_of : List ℕ → Name
-name_of c = record { bytes = padded places c; len = min (length c) places }
+name_of c = record { 0 = kept_of places c }
 
 unfoldable pub no_name : Name
-no_name = record { bytes = replicate places 0; len = 0 }
+no_name = record { 0 = kept_none places }
 
 -- a stored name's own bytes: those after its length are never judged
 abbrev pub name_bytes : Name → List ℕ
-name_bytes n = take n.len n.bytes
+name_bytes n = kept_bytes n.0
 
 -- a stored name is one
 unfoldable pub name_fits : Name → Bool
-name_fits n = leb n.len places && is_name (name_bytes n)
+name_fits n = leb n.0.len places && is_name (name_bytes n)
 
 -- two names are the same
 unfoldable pub same_name : Name → Name → Bool

@@ -1,19 +1,19 @@
 -- What a command comes to once its data is read: the order of its own checks, "6982; 6A88; 6983; 6984; verdict" with the exceptions
 -- that stand with the commands, each check a line with its refusal; and what a run step leads to. Verify certificate is in certify.
 -- Assumes nothing: these are definitions.
-use Rattle.std.specs.Prelude.{ℕ, ◌-◌, Bool, cond, not, ◌&&◌, ◌||◌, eqb}
+use Rattle.std.specs.Prelude.{ℕ, ◌-◌, Bool, cond, not, ◌&&◌, ◌||◌, eqb, Option}
 use Rattle.run.specs.declared.Choice.{Choice}
 use Rattle.run.specs.declared.Step.{Step}
 use Rattle.run.specs.Run.{password_of, is_pin, is_puk, is_last, tries}
 use Rattle.event.specs.declared.Refusal.TheVariants.{Lacking, Blocked, Unusable, Moment}
 use Rattle.event.specs.declared.Event.{Event}
 use Rattle.event.specs.declared.Event.TheVariants.{Refused, Chosen, StepPassed, Opened as IsOpened, RunClosed, TrialLost, UnblockedByPuk, UnblockedByRight}
-use Rattle.standing.specs.declared.Opened.{Opened}
 use Rattle.standing.specs.Standing.{opened_by_can, opened_by_puk}
+use Rattle.run.specs.declared.Password.{Password}
 
 -- ---- Choose password
 
-abbrev pub choose_event : (pin : ℕ) (active : Bool) (puk : ℕ) → Opened → Choice → Event
+abbrev pub choose_event : (pin : ℕ) (active : Bool) (puk : ℕ) → Option Password → Choice → Event
 choose_event pin active puk opened c =
     -- "PIN: counter 0 is 6983"
     cond (is_pin (password_of c) && eqb pin 0) (Refused Blocked)
@@ -46,7 +46,7 @@ grounded has_ground done = cond has_ground done (Refused Lacking)
 
 -- ---- Unblock
 
-abbrev pub unblock_event : Opened → (right : Bool) (pin puk : ℕ) → Event
+abbrev pub unblock_event : Option Password → (right : Bool) (pin puk : ℕ) → Event
 unblock_event opened right pin puk =
     -- "opened by PUK .., or bit 5"; "With no such ground: 6982"
     cond (not (opened_by_puk opened || right)) (Refused Lacking)

@@ -1,4 +1,5 @@
 -- Two permitted outcomes of each public function are equal. Assumes nothing.
+use Rattle.std.specs.Prelude.{Option, Result}
 use Prim.Native.Nat.{ℕ}
 use mathlib.Core.Bool.{Bool}
 use mathlib.Core.List.{List}
@@ -7,14 +8,13 @@ use Rattle.days.specs.Days.{dated, day_fits, before, later}
 use Rattle.certificate.specs.Certificate.{no_certificate, certificate_fits, expired, with_key, today_after}
 use Rattle.status.specs.Words.{word_number, intake_word}
 use Rattle.days.specs.declared.Day.{Day}
-use Rattle.days.specs.declared.Dated.{Dated}
 use Rattle.certificate.specs.declared.Certificate.{Certificate}
-use Rattle.status.specs.declared.Intake.{Intake}
+use Rattle.status.specs.declared.Unfit.{Unfit}
 use Rattle.status.specs.declared.Word.{Word}
 
 -- ---- day
 
-pub day-of-pinned : (s : List ℕ) → Pinned Dated (dated s)
+pub day-of-pinned : (s : List ℕ) → Pinned (Option Day) (dated s)
 day-of-pinned s = pinned _
 
 pub day-fits-pinned : (d : Day) → Pinned Bool (day_fits d)
@@ -48,5 +48,5 @@ today-after-pinned dv terminal today = pinned _
 pub number-pinned : (w : Word) → Pinned ℕ (word_number w)
 number-pinned w = pinned _
 
-pub intake-word-pinned : (i : Intake) → Pinned Word (intake_word i)
+pub intake-word-pinned : {T : Type 0} (i : Result T Unfit) → Pinned Word (intake_word i)
 intake-word-pinned i = pinned _

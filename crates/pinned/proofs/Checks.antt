@@ -1,4 +1,5 @@
 -- Two permitted outcomes of each public function are equal. Assumes nothing.
+use Rattle.std.specs.Prelude.{Option}
 use Prim.Native.Nat.{ℕ}
 use mathlib.Core.Bool.{Bool}
 use Rattle.laws.proofs.Pinned.{Pinned, pinned}
@@ -11,14 +12,14 @@ use Rattle.event.specs.declared.Event.{Event}
 use Rattle.plans.specs.declared.Plan.{Plan}
 use Rattle.fields.specs.declared.asked.Content.{Content}
 use Rattle.trust.specs.declared.Points.{Points}
-use Rattle.standing.specs.declared.Opened.{Opened}
 use Rattle.standing.specs.declared.Chain.{Chain}
 use Rattle.session.specs.declared.Context.{Context}
-use Rattle.standing.specs.declared.Selected.{Selected}
 use Rattle.checks.specs.Checks.{choose_plan, general_plan, announce_plan, read_plan, change_plan, unblock_plan, active_plan}
 use Rattle.certify.specs.Certify.{select_plan, verify_plan}
+use Rattle.run.specs.declared.Password.{Password}
+use Rattle.event.specs.declared.Issuer.{Issuer}
 
-pub choose-pinned : (pin puk : ℕ) (active : Bool) (opened : Opened) (c : Choice) → Pinned Plan (choose_plan pin active puk opened c)
+pub choose-pinned : (pin puk : ℕ) (active : Bool) (opened : Option Password) (c : Choice) → Pinned Plan (choose_plan pin active puk opened c)
 choose-pinned pin puk active opened c = pinned _
 
 pub general-pinned : (z : Context) (pin : ℕ) (x : Content) → Pinned Plan (general_plan z.key pin z.stage x)
@@ -42,5 +43,5 @@ set-active-pinned z done = pinned _
 pub select-pinned : (h : Points) (chain : Chain) (n : Name) → Pinned Plan (select_plan h chain n)
 select-pinned h chain n = pinned _
 
-pub verify-pinned : (h : Points) (dv : Certificate) (today : Day) (selected : Selected) (b : Brought) → Pinned Plan (verify_plan h dv today selected b)
+pub verify-pinned : (h : Points) (dv : Certificate) (today : Day) (selected : Option Issuer) (b : Brought) → Pinned Plan (verify_plan h dv today selected b)
 verify-pinned h dv today selected b = pinned _

@@ -1,4 +1,5 @@
 -- Two permitted outcomes of each public function are equal. Assumes nothing.
+use Rattle.std.specs.Prelude.{Option}
 use Prim.Native.Nat.{ℕ}
 use mathlib.Core.Bool.{Bool}
 use mathlib.Core.List.{List}
@@ -7,9 +8,8 @@ use Rattle.rights.specs.Rights.{granted, rights_fit, role_of, common, has_right,
 use Rattle.roles.specs.Roles.{role_number, is_cvca, is_official, is_terminal, is_dv}
 use Rattle.rights.specs.declared.Rights.{Rights}
 use Rattle.roles.specs.declared.Role.{Role}
-use Rattle.rights.specs.declared.Granted.{Granted}
 
-pub rights-of-pinned : (s : List ℕ) → Pinned Granted (granted s)
+pub rights-of-pinned : (s : List ℕ) → Pinned (Option Rights) (granted s)
 rights-of-pinned s = pinned _
 
 pub rights-fits-pinned : (r : Rights) → Pinned Bool (rights_fit r)

@@ -1,12 +1,13 @@
 -- Two permitted outcomes of each public function are equal. Assumes nothing.
+use Rattle.std.specs.Prelude.{Option}
 use Prim.Native.Nat.{ℕ}
 use mathlib.Core.Bool.{Bool}
 use Rattle.laws.proofs.Pinned.{Pinned, pinned}
-use Rattle.rights.specs.declared.Granted.{Granted}
 use Rattle.run.specs.Run.{password_number, password_of, rights_named, is_pin, is_can, is_puk, step_number, is_last, next_step}
 use Rattle.run.specs.declared.Password.{Password}
 use Rattle.run.specs.declared.Choice.{Choice}
 use Rattle.run.specs.declared.Step.{Step}
+use Rattle.rights.specs.declared.Rights.{Rights}
 
 pub password-number-pinned : (p : Password) → Pinned ℕ (password_number p)
 password-number-pinned p = pinned _
@@ -23,7 +24,7 @@ is-puk-pinned p = pinned _
 pub password-pinned : (c : Choice) → Pinned Password (password_of c)
 password-pinned c = pinned _
 
-pub rights-pinned : (c : Choice) → Pinned Granted (rights_named c)
+pub rights-pinned : (c : Choice) → Pinned (Option Rights) (rights_named c)
 rights-pinned c = pinned _
 
 pub step-number-pinned : (p : Step) → Pinned ℕ (step_number p)

@@ -1,11 +1,10 @@
 -- Two permitted outcomes of each public function are equal. Assumes nothing.
+use Rattle.std.specs.Prelude.{Option}
 use Rattle.laws.proofs.Pinned.{Pinned, pinned}
 use Rattle.keys.specs.declared.Key.{Key}
-use Rattle.rights.specs.declared.Granted.{Granted}
 use Rattle.event.specs.declared.Issuer.{Issuer}
 use Rattle.session.specs.Session.{no_session, bare_session, rechosen, at_stage, announced_with, chained_to, selecting}
 use Rattle.run.specs.declared.Choice.{Choice}
-use Rattle.standing.specs.declared.Opened.{Opened}
 use Rattle.standing.specs.declared.Chain.{Chain}
 use Rattle.standing.specs.declared.Stage.{Stage}
 use Rattle.session.specs.declared.Session.{Session}
@@ -19,8 +18,9 @@ use Rattle.authorization.specs.Authorization.{authorization}
 use Rattle.session.specs.declared.Context.{Context}
 use Rattle.standing.specs.Standing.{no_chain}
 use Rattle.standing.specs.declared.Stage.TheVariants.{Announced}
+use Rattle.run.specs.declared.Password.{Password}
 
-pub bare-pinned : (o : Opened) (g : Granted) (s : Stage) → Pinned Session (bare_session o g s)
+pub bare-pinned : (o : Option Password) (g : Option Rights) (s : Stage) → Pinned Session (bare_session o g s)
 bare-pinned o g s = pinned _
 
 pub none-pinned : Pinned Session no_session

@@ -1,4 +1,5 @@
 -- Any two outcomes of the functions of `text`, `digits` and `words` that their contracts permit are equal. Assumes nothing.
+use Rattle.std.specs.Prelude.{Option}
 use Prim.Native.Nat.{ℕ, ◌+◌, min}
 use mathlib.Core.Bool.{Bool}
 use mathlib.Core.Path.{◌≡◌}
@@ -12,8 +13,6 @@ use Rattle.text.specs.Find.{place_of}
 use Rattle.digits.specs.Digits.{base_of, digits, decimal, number_of}
 use Rattle.digits.specs.Hex.{hex_of, hex_read, hex_laid}
 use Rattle.digits.specs.declared.number.Radix.{Radix}
-use Rattle.digits.specs.declared.number.Number.{Number}
-use Rattle.digits.specs.declared.hex.Taken.{Taken}
 use Rattle.words.specs.Words.{part_of, word_at, occurrences}
 use Rattle.words.specs.Verbs.{verb_of, act_of}
 use Rattle.words.specs.declared.Verb.{Verb}
@@ -38,13 +37,13 @@ put-digits-pinned at n width radix out = put-pinned at (digits (base_of radix) w
 pub put-decimal-pinned : (at n : ℕ) (out : List ℕ) (r q : ℕ) (o p : List ℕ) → Put at (fitting at (decimal n) out) out o r → Put at (fitting at (decimal n) out) out p q → (r ≡ q) × (o ≡ p)
 put-decimal-pinned at n out = put-pinned at (decimal n) out
 
-pub read-hex-pinned : (s out : List ℕ) (r q : Taken) (o p : List ℕ)
+pub read-hex-pinned : (s out : List ℕ) (r q : Option ℕ) (o p : List ℕ)
     → (r ≡ hex_read (length out) s) × (o ≡ over 0 (hex_laid (length out) s) out)
     → (q ≡ hex_read (length out) s) × (p ≡ over 0 (hex_laid (length out) s) out)
     → (r ≡ q) × (o ≡ p)
 read-hex-pinned s out r q o p a b = (pinned _ r q a.0 b.0, pinned _ o p a.1 b.1)
 
-pub read-number-pinned : (s : List ℕ) (radix : Radix) → Pinned Number (number_of (base_of radix) s)
+pub read-number-pinned : (s : List ℕ) (radix : Radix) → Pinned (Option ℕ) (number_of (base_of radix) s)
 read-number-pinned s radix = pinned _
 
 pub part-pinned : (s : List ℕ) (k b : ℕ) → Pinned (List ℕ) (part_of b k s)

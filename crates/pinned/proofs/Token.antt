@@ -13,7 +13,8 @@ use Rattle.token.specs.State.{no_token, made_of, reset_of}
 use Rattle.token.specs.Plan.{plan_of}
 use Rattle.token.specs.Step.{Exchange, Steps}
 use Rattle.token.specs.declared.state.Token.{Token}
-use Rattle.token.specs.declared.state.Personalised.{Personalised}
+use Rattle.status.specs.declared.Unfit.{Unfit}
+use Rattle.std.specs.Prelude.{Result}
 use Rattle.token.specs.declared.step.Outcome.{Outcome}
 
 -- ---- state
@@ -21,10 +22,10 @@ use Rattle.token.specs.declared.step.Outcome.{Outcome}
 pub none-pinned : Pinned Token no_token
 none-pinned = pinned _
 
-pub with-one-pinned : (newest : Certificate) (today : Day) → Pinned Personalised (made_of (one_point newest) today)
+pub with-one-pinned : (newest : Certificate) (today : Day) → Pinned (Result Token Unfit) (made_of (one_point newest) today)
 with-one-pinned newest today = pinned _
 
-pub with-two-pinned : (newest previous : Certificate) (today : Day) → Pinned Personalised (made_of (two_points newest previous) today)
+pub with-two-pinned : (newest previous : Certificate) (today : Day) → Pinned (Result Token Unfit) (made_of (two_points newest previous) today)
 with-two-pinned newest previous today = pinned _
 
 pub reset-pinned : (t : Token) → Pinned Token (reset_of t)

@@ -1,4 +1,5 @@
 -- Two permitted outcomes of each public function are equal. Assumes nothing.
+use Rattle.std.specs.Prelude.{Option}
 use mathlib.Core.Bool.{Bool}
 use Rattle.laws.proofs.Pinned.{Pinned, pinned}
 use Rattle.names.specs.declared.Name.{Name}
@@ -7,7 +8,6 @@ use Rattle.certificate.specs.declared.Certificate.{Certificate}
 use Rattle.event.specs.declared.Issuer.{Issuer}
 use Rattle.trust.specs.Trust.{one_point, two_points, points_fit, knows, found, issuer_of, holds, names_of, linked}
 use Rattle.trust.specs.declared.Points.{Points}
-use Rattle.trust.specs.declared.Trusted.{Trusted}
 
 pub one-pinned : (newest : Certificate) → Pinned Points (one_point newest)
 one-pinned newest = pinned _
@@ -21,7 +21,7 @@ fit-pinned h = pinned _
 pub knows-pinned : (h : Points) (n : Name) → Pinned Bool (knows h n)
 knows-pinned h n = pinned _
 
-pub find-pinned : (h : Points) (n : Name) → Pinned Trusted (found h n)
+pub find-pinned : (h : Points) (n : Name) → Pinned (Option Issuer) (found h n)
 find-pinned h n = pinned _
 
 pub issuer-pinned : (h : Points) (i : Issuer) (dv : Certificate) → Pinned Certificate (issuer_of h i dv)

@@ -1,13 +1,12 @@
 -- The ways a plan ends. Assumes nothing: these are definitions.
-use Rattle.std.specs.Prelude.{ℕ, Bool, cond}
+use Rattle.std.specs.Prelude.{ℕ, Bool, cond, Result, Ok, Err, ⊤}
 use Rattle.brought.specs.Brought.{brought_none}
+use Rattle.event.specs.declared.Loss.{Loss}
 use Rattle.event.specs.declared.Loss.TheVariants.{Unprotected, Broken}
 use Rattle.run.specs.Run.{step_number}
 use Rattle.event.specs.declared.Event.{Event}
 use Rattle.plans.specs.declared.Note.{Note}
 use Rattle.plans.specs.declared.Note.TheVariants.{Plain, Protected, Broken as BrokenNote}
-use Rattle.plans.specs.declared.Guard.{Guard}
-use Rattle.plans.specs.declared.Guard.TheVariants.{Passes, Drops}
 use Rattle.plans.specs.declared.Job.{Job}
 use Rattle.plans.specs.declared.Job.TheVariants.{Nothing, Step as StepJob, Certificate as CertificateJob, Challenge, Proof, ChipKey, PinChange}
 use Rattle.plans.specs.declared.Ending.{Ending}
@@ -22,10 +21,10 @@ unfoldable pub awaits_by : Job → (passed otherwise : Event) → Plan
 awaits_by j x y = record { ending = Awaits j x y; brought = brought_none }
 
 -- 6987 / 6988: "plain while a session is open / broken, or protected with none open"
-abbrev pub guard_of : Note → Bool → Guard
-guard_of Plain opened = cond opened (Drops Unprotected) Passes
-guard_of Protected opened = cond opened Passes (Drops Broken)
-guard_of BrokenNote opened = Drops Broken
+abbrev pub guard_of : Note → Bool → Result ⊤ Loss
+guard_of Plain opened = cond opened (Err Unprotected) (Ok tt)
+guard_of Protected opened = cond opened (Ok tt) (Err Broken)
+guard_of BrokenNote opened = Err Broken
 
 -- the job that is wanted: none where no verdict is awaited
 abbrev pub ending_job : Ending → Job

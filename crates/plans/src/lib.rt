@@ -1,31 +1,24 @@
 // The ways a plan ends, the jobs it may want, and what a note does to a session.
 #![tactic(auto)]
 
-ghost use Rattle.plans.specs.Numbers.{note_number, note_at, job_at};
 ghost use Rattle.std.specs.Prelude.{◌≡◌};
+ghost use Rattle.plans.specs.Numbers.{note_number, note_read, job_read};
 ghost use Rattle.plans.specs.Plans.{settled_by, awaits_by, guard_of, ending_job, job_number};
 
 use brought::Brought;
 use event::{Event, Loss};
 use run::Step;
 
-// How a command came.
-#[derive(Clone, Copy)]
+// How a command came, by its number.
+#[derive(Clone, Copy, PartialEq, Eq)]
 pub enum Note {
-    Plain,
-    Protected,
-    Broken,
-}
-
-// The note of a number, if there is one.
-#[derive(Clone, Copy)]
-pub enum NoteOf {
-    Is(Note),
-    Unknown,
+    Plain = 0,
+    Protected = 1,
+    Broken = 2,
 }
 
 // What the crypto unit is asked to do.
-#[derive(Clone, Copy)]
+#[derive(Clone, Copy, PartialEq, Eq)]
 pub enum Job {
     Nothing,
     Step(Step),
@@ -36,15 +29,8 @@ pub enum Job {
     PinChange,
 }
 
-// The job of a number, if there is one.
-#[derive(Clone, Copy)]
-pub enum JobOf {
-    Is(Job),
-    Unknown,
-}
-
 // An event, or a job with the event if it is passed and the event otherwise.
-#[derive(Clone, Copy)]
+#[derive(Clone, Copy, PartialEq, Eq)]
 pub enum Ending {
     Settled(Event),
     Awaits(Job, Event, Event),
@@ -57,41 +43,82 @@ pub struct Plan {
     pub brought: Brought,
 }
 
-// Whether a note lets a command pass.
-#[derive(Clone, Copy)]
-pub enum Guard {
-    Passes,
-    Drops(Loss),
-}
+// A number that no note, or no job, has.
+#[derive(Clone, Copy, PartialEq, Eq)]
+pub struct UnknownNumber(pub u8);
 
 impl Note {
-    pub fn number(self) -> u8
-        ensures { result ≡ note_number self }
-    {
-        match self {
-            Note::Plain => 0,
-            Note::Protected => 1,
-            Note::Broken => 2,
-        }
-    }
-
-    pub fn guard(self, opened: bool) -> Guard
+    // Lets a command pass, or says how the session is lost.
+    pub fn guard(self, opened: bool) -> Result<(), Loss>
         ensures { result ≡ guard_of self opened }
     {
-        match self {
-            Note::Plain => {
-                if opened {
-                    return Guard::Drops(Loss::Unprotected);
-                }
-                Guard::Passes
-            }
-            Note::Protected => {
-                if opened {
-                    return Guard::Passes;
-                }
-                Guard::Drops(Loss::Broken)
-            }
-            Note::Broken => Guard::Drops(Loss::Broken),
+        match (self, opened) {
+            (Note::Plain, false) | (Note::Protected, true) => Ok(()),
+            (Note::Plain, true) => Err(Loss::Unprotected),
+            (Note::Protected, false) | (Note::Broken, _) => Err(Loss::Broken),
+        }
+    }
+}
+
+impl From<Note> for u8 {
+    ghost from_gives = { λ note n. n ≡ note_number note };
+
+    fn from(note: Note) -> u8 {
+        note as u8
+    }
+}
+
+impl TryFrom<u8> for Note {
+    type Error = UnknownNumber;
+
+    ghost try_from_gives = { λ n read. read ≡ note_read n };
+
+    #[tactic(auto, unfolding(crate::specs::Numbers::note_at))]
+    fn try_from(n: u8) -> Result<Note, UnknownNumber> {
+        match n {
+            0 => Ok(Note::Plain),
+            1 => Ok(Note::Protected),
+            2 => Ok(Note::Broken),
+            _ => Err(UnknownNumber(n)),
+        }
+    }
+}
+
+impl From<Job> for u8 {
+    ghost from_gives = { λ job n. n ≡ job_number job };
+
+    fn from(job: Job) -> u8 {
+        match job {
+            Job::Nothing => 0,
+            Job::Step(step) => step.number(),
+            Job::Certificate => 5,
+            Job::Challenge => 6,
+            Job::Proof => 7,
+            Job::ChipKey => 8,
+            Job::PinChange => 9,
+        }
+    }
+}
+
+impl TryFrom<u8> for Job {
+    type Error = UnknownNumber;
+
+    ghost try_from_gives = { λ n read. read ≡ job_read n };
+
+    #[tactic(auto, unfolding(crate::specs::Numbers::job_at))]
+    fn try_from(n: u8) -> Result<Job, UnknownNumber> {
+        match n {
+            0 => Ok(Job::Nothing),
+            1 => Ok(Job::Step(Step::Nonce)),
+            2 => Ok(Job::Step(Step::Map)),
+            3 => Ok(Job::Step(Step::Agree)),
+            4 => Ok(Job::Step(Step::Confirm)),
+            5 => Ok(Job::Certificate),
+            6 => Ok(Job::Challenge),
+            7 => Ok(Job::Proof),
+            8 => Ok(Job::ChipKey),
+            9 => Ok(Job::PinChange),
+            _ => Err(UnknownNumber(n)),
         }
     }
 }
@@ -102,77 +129,31 @@ impl Ending {
     {
         match self {
             Ending::Settled(_) => Job::Nothing,
-            Ending::Awaits(j, _, _) => j,
+            Ending::Awaits(job, _, _) => job,
         }
     }
 }
 
 impl Plan {
     // Settled, with nothing brought.
-    pub fn settled(e: Event) -> Self
-        ensures { result ≡ settled_by e }
+    #[tactic(auto, unfolding(crate::specs::Plans::settled_by))]
+    pub fn settled(event: Event) -> Self
+        ensures { result ≡ settled_by event }
     {
-        let b = Brought::none();
         Plan {
-            ending: Ending::Settled(e),
-            brought: b,
+            ending: Ending::Settled(event),
+            brought: Brought::none(),
         }
     }
 
     // A job, with nothing brought.
+    #[tactic(auto, unfolding(crate::specs::Plans::awaits_by))]
     pub fn awaits(job: Job, passed: Event, otherwise: Event) -> Self
         ensures { result ≡ awaits_by job passed otherwise }
     {
-        let b = Brought::none();
         Plan {
             ending: Ending::Awaits(job, passed, otherwise),
-            brought: b,
+            brought: Brought::none(),
         }
-    }
-}
-
-impl Job {
-    pub fn number(self) -> u8
-        ensures { result ≡ job_number self }
-    {
-        match self {
-            Job::Nothing => 0,
-            Job::Step(p) => p.number(),
-            Job::Certificate => 5,
-            Job::Challenge => 6,
-            Job::Proof => 7,
-            Job::ChipKey => 8,
-            Job::PinChange => 9,
-        }
-    }
-}
-
-// The way back.
-pub fn note_of(n: u8) -> NoteOf
-    ensures { result ≡ note_at n }
-{
-    match n {
-        0 => NoteOf::Is(Note::Plain),
-        1 => NoteOf::Is(Note::Protected),
-        2 => NoteOf::Is(Note::Broken),
-        _ => NoteOf::Unknown,
-    }
-}
-
-pub fn job_of(n: u8) -> JobOf
-    ensures { result ≡ job_at n }
-{
-    match n {
-        0 => JobOf::Is(Job::Nothing),
-        1 => JobOf::Is(Job::Step(Step::Nonce)),
-        2 => JobOf::Is(Job::Step(Step::Map)),
-        3 => JobOf::Is(Job::Step(Step::Agree)),
-        4 => JobOf::Is(Job::Step(Step::Confirm)),
-        5 => JobOf::Is(Job::Certificate),
-        6 => JobOf::Is(Job::Challenge),
-        7 => JobOf::Is(Job::Proof),
-        8 => JobOf::Is(Job::ChipKey),
-        9 => JobOf::Is(Job::PinChange),
-        _ => JobOf::Unknown,
     }
 }

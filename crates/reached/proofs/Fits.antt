@@ -1,4 +1,5 @@
 -- What an event tells of the token and the command that it comes from: and the one walk down the plan that shows it. Assumes nothing.
+use Rattle.std.specs.Prelude.{Option, Some, None, Result, Ok, Err, is_some, unwrap_or, ⊤}
 use Prim.Native.Nat.{ℕ, ◌-◌}
 use mathlib.Core.Bool.{Bool, true, false, cond, not, ◌&&◌, ◌||◌}
 use mathlib.Core.Path.{◌≡◌, refl, sym, ap, subst, subst⁻¹, ◌∙◌}
@@ -30,8 +31,6 @@ use Rattle.event.specs.declared.Issuer.TheVariants.{Newest, Previous, Dv}
 use Rattle.event.specs.declared.Event.{Event}
 use Rattle.event.specs.declared.Event.TheVariants.{Refused, Lost, Chosen, StepPassed, Opened as IsOpened, RunClosed, TrialLost, Selected as IsSelected, LinkTaken, DvTaken, TerminalTaken, Announced as IsAnnounced, Challenged as IsChallenged, Proven as IsProven, ProofLost, ChipKeyChosen as IsChosen, Authenticated as IsAuthenticated, ChipLost, ReadAllowed, PinChanged, UnblockedByPuk, UnblockedByRight, Activated, Deactivated, NotPassed}
 use Rattle.plans.specs.declared.Note.{Note}
-use Rattle.plans.specs.declared.Guard.{Guard}
-use Rattle.plans.specs.declared.Guard.TheVariants.{Passes, Drops}
 use Rattle.plans.specs.declared.Job.{Job}
 use Rattle.plans.specs.declared.Job.TheVariants.{Step as StepJob, Certificate as CertificateJob, Challenge as ChallengeJob, Proof, PinChange}
 use Rattle.plans.specs.declared.Ending.{Ending}
@@ -44,20 +43,17 @@ use Rattle.verdicts.specs.Verdicts.{matches, taken_in, ends_by, passes_by}
 use Rattle.verdicts.proofs.Decisions.{decided-all}
 use Rattle.outcome.specs.Outcome.{passed_event, other_event}
 use Rattle.trust.specs.Trust.{points_fit, knows, found, issuer_of, holds}
+use Rattle.trust.specs.declared.Points.{Points}
+use Rattle.certificate.specs.Certificate.{no_certificate}
 use Rattle.trust.proofs.Laws.{Holds, as-newest, as-previous, found-holds}
-use Rattle.trust.specs.declared.Trusted.{Trusted}
-use Rattle.trust.specs.declared.Trusted.TheVariants.{Is, Unknown}
 use Rattle.fields.specs.declared.asked.Content.{Content}
 use Rattle.fields.specs.declared.asked.Content.TheVariants.{Step as StepData, Chip}
 use Rattle.fields.specs.declared.asked.Ask.{Ask}
 use Rattle.fields.specs.declared.asked.Ask.TheVariants.{Choose, General, Select, Verify, Announce, Challenge, Prove, ChooseChipKey, Read, ChangePin, Unblock, Activate, Deactivate}
-use Rattle.fields.specs.declared.asked.Request.{Request}
-use Rattle.fields.specs.declared.asked.Request.TheVariants.{Refused as Faulty, Asks}
+use Rattle.fields.specs.declared.given.Given.{Given}
 use Rattle.fields.specs.declared.asked.Asked.{Asked}
 use Rattle.fields.specs.Asked.{asked_of}
-use Rattle.fields.proofs.Facts.{Of, of-bad, of-choose, of-general, of-select, of-verify, of-announce, of-challenge, of-prove, of-chip-key, of-read, of-change-pin, of-unblock, of-activate, of-deactivate, kind-of}
-use Rattle.standing.specs.declared.Selected.{Selected}
-use Rattle.standing.specs.declared.Selected.TheVariants.{NoIssuer, Of as Chose}
+use Rattle.fields.proofs.Facts.{Of, of-choose, of-general, of-select, of-verify, of-announce, of-challenge, of-prove, of-chip-key, of-read, of-change-pin, of-unblock, of-activate, of-deactivate, ask_in, brought_in, kind-in}
 use Rattle.standing.specs.declared.Stage.{Stage}
 use Rattle.standing.specs.declared.Stage.TheVariants.{Idle, Run, Announced, Challenged, Proven, ChipKeyChosen, Authenticated}
 use Rattle.standing.specs.Standing.{is_open, opened_by_pin, opened_by_can, opened_by_puk, has_rights, has_dv, has_terminal, is_selected, unproven, is_announced, is_challenged, is_proven, is_chosen}
@@ -69,7 +65,7 @@ use Rattle.token.specs.State.{uses, context_of, chain_of}
 use Rattle.token.specs.Limits.{selectable, in_limits}
 use Rattle.checks.specs.Checks.{manages_pin, is_for, choose_plan, run_plan, chip_plan, general_plan, announce_plan, read_plan, change_plan, unblock_plan, active_plan}
 use Rattle.certify.specs.Certify.{select_by, select_plan, issues, repeats, late, taken_event, issued_ending, under_plan, verify_plan}
-use Rattle.token.specs.Plan.{command_of, timed_of, requested_of, guarded, plan_of}
+use Rattle.token.specs.Plan.{command_of, timed_of, given_of, requested_of, guarded, plan_of}
 use Rattle.token.specs.Step.{Exchange, happened_of}
 
 -- ---- what a token grants to each event
@@ -84,36 +80,41 @@ pub data Quiet : Ask → Type 0 where
   challenging : Quiet Challenge
   changing : Quiet ChangePin
 
+-- what the data of a command ask and bring, where they are what it wants
+abbrev pub given_in : Result Asked Refusal → Option Given
+given_in (Err w) = None
+given_in (Ok a) = a.given
+
 -- the second string is what the chip key is compared with
-pub data Fits (t : Token) (a : Asked) (z : List ℕ) : Event → Brought → Type 0 where
+pub data Fits (t : Token) (a : Option Given) (z : List ℕ) : Event → Brought → Type 0 where
   is-refused : {w : Refusal} {b : Brought} → Fits t a z (Refused w) b
   is_lost_lem : {l : Loss} {b : Brought} → Fits t a z (Lost l) b
-  is-chosen : {m : Kind} {ch : Bool} {c : Choice} {b : Brought} → a.request ≡ Asks m ch (Choose c) → is_pin (password_of c) && eqb t.pin 0 ≡ false → Fits t a z (Chosen c t.pin) b
-  is-stepped : {m : Kind} {ch : Bool} {c : Choice} {s : Step} {b : Brought} → a.request ≡ Asks m ch (General (StepData s)) → (context_of t).stage ≡ Run c s → is_last s ≡ false → Fits t a z (StepPassed c s) b
-  is-opened : {m : Kind} {ch : Bool} {c : Choice} {s : Step} {b : Brought} → a.request ≡ Asks m ch (General (StepData s)) → (context_of t).stage ≡ Run c s → is_last s ≡ true → Fits t a z (IsOpened c) b
-  is-run-closed : {m : Kind} {ch : Bool} {x : Step} {c : Choice} {s : Step} {b : Brought} → a.request ≡ Asks m ch (General (StepData x)) → (context_of t).stage ≡ Run c s → Fits t a z RunClosed b
-  is-trial-lost : {m : Kind} {ch : Bool} {x : Step} {c : Choice} {s : Step} {b : Brought} → a.request ≡ Asks m ch (General (StepData x)) → (context_of t).stage ≡ Run c s → Fits t a z (TrialLost (t.pin - 1)) b
-  is-selected : {m : Kind} {ch : Bool} {i : Issuer} {b : Brought} → a.request ≡ Asks m ch Select → holds t.points i (has_dv (chain_of t)) ≡ true → Fits t a z (IsSelected i) b
-  is-link-taken : (n : ℕ) {m : Kind} {ch : Bool} → a.request ≡ Asks m ch Verify → certifying t ≡ true → role_of a.brought.certificate.rights ≡ Cvca → knows t.points a.brought.certificate.name ≡ false
-      → Fits t a z LinkTaken (taken_in CertificateJob a.brought n)
-  is-dv-taken : (n : ℕ) {m : Kind} {ch : Bool} {h : Certificate} → a.request ≡ Asks m ch Verify → certifying t ≡ true → is_dv (role_of a.brought.certificate.rights) ≡ true → knows t.points a.brought.certificate.name ≡ false
-      → Holds t.points h → same_name a.brought.name h.name ≡ true → Fits t a z (DvTaken h.rights) (taken_in CertificateJob a.brought n)
-  is-terminal-taken : (n : ℕ) {m : Kind} {ch : Bool} → a.request ≡ Asks m ch Verify → certifying t ≡ true → role_of a.brought.certificate.rights ≡ Terminal → has_dv (chain_of t) ≡ true
-      → same_name a.brought.name (chain_of t).dv.name ≡ true → Fits t a z TerminalTaken (taken_in CertificateJob a.brought n)
-  is-announced : {m : Kind} {ch : Bool} → a.request ≡ Asks m ch Announce → has_terminal (chain_of t) && unproven (context_of t).stage ≡ true → Fits t a z IsAnnounced a.brought
-  is-challenged : {m : Kind} {ch : Bool} {b : Brought} → a.request ≡ Asks m ch Challenge → is_announced (context_of t).stage || is_challenged (context_of t).stage ≡ true → Fits t a z IsChallenged b
-  is-proven : {m : Kind} {ch : Bool} {b : Brought} → a.request ≡ Asks m ch Prove → is_challenged (context_of t).stage ≡ true → Fits t a z IsProven b
-  is-proof-lost : {m : Kind} {ch : Bool} {b : Brought} → a.request ≡ Asks m ch Prove → is_challenged (context_of t).stage ≡ true → Fits t a z ProofLost b
-  is-chip-key-chosen : {m : Kind} {ch : Bool} {b : Brought} → a.request ≡ Asks m ch ChooseChipKey → is_proven (context_of t).stage || is_chosen (context_of t).stage ≡ true → Fits t a z IsChosen b
-  is-authenticated : {m : Kind} {ch : Bool} {b : Brought} → a.request ≡ Asks m ch (General Chip) → (context_of t).stage ≡ ChipKeyChosen → key_is (context_of t).key z ≡ true → Fits t a z IsAuthenticated b
-  is-chip-lost : {m : Kind} {ch : Bool} {b : Brought} → a.request ≡ Asks m ch (General Chip) → (context_of t).stage ≡ ChipKeyChosen → Fits t a z ChipLost b
-  not-passed : {m : Kind} {ch : Bool} {x : Ask} {b : Brought} → a.request ≡ Asks m ch x → Quiet x → Fits t a z NotPassed b
-  is_read : {m : Kind} {ch : Bool} {n : ℕ} {b : Brought} → a.request ≡ Asks m ch (Read n) → Fits t a z ReadAllowed b
-  is-changed : {m : Kind} {ch : Bool} {b : Brought} → a.request ≡ Asks m ch ChangePin → Fits t a z PinChanged b
-  is-unblocked-puk : {m : Kind} {ch : Bool} {b : Brought} → a.request ≡ Asks m ch Unblock → Fits t a z UnblockedByPuk b
-  is-unblocked : {m : Kind} {ch : Bool} {b : Brought} → a.request ≡ Asks m ch Unblock → Fits t a z UnblockedByRight b
-  is-activated : {m : Kind} {ch : Bool} {b : Brought} → a.request ≡ Asks m ch Activate → Fits t a z Activated b
-  is-deactivated : {m : Kind} {ch : Bool} {b : Brought} → a.request ≡ Asks m ch Deactivate → Fits t a z Deactivated b
+  is-chosen : {c : Choice} {b : Brought} → ask_in a ≡ Some (Choose c) → is_pin (password_of c) && eqb t.pin 0 ≡ false → Fits t a z (Chosen c t.pin) b
+  is-stepped : {c : Choice} {s : Step} {b : Brought} → ask_in a ≡ Some (General (StepData s)) → (context_of t).stage ≡ Run c s → is_last s ≡ false → Fits t a z (StepPassed c s) b
+  is-opened : {c : Choice} {s : Step} {b : Brought} → ask_in a ≡ Some (General (StepData s)) → (context_of t).stage ≡ Run c s → is_last s ≡ true → Fits t a z (IsOpened c) b
+  is-run-closed : {x : Step} {c : Choice} {s : Step} {b : Brought} → ask_in a ≡ Some (General (StepData x)) → (context_of t).stage ≡ Run c s → Fits t a z RunClosed b
+  is-trial-lost : {x : Step} {c : Choice} {s : Step} {b : Brought} → ask_in a ≡ Some (General (StepData x)) → (context_of t).stage ≡ Run c s → Fits t a z (TrialLost (t.pin - 1)) b
+  is-selected : {i : Issuer} {b : Brought} → ask_in a ≡ Some Select → holds t.points i (has_dv (chain_of t)) ≡ true → Fits t a z (IsSelected i) b
+  is-link-taken : (n : ℕ) → ask_in a ≡ Some Verify → certifying t ≡ true → role_of (brought_in a).certificate.rights ≡ Cvca → knows t.points (brought_in a).certificate.name ≡ false
+      → Fits t a z LinkTaken (taken_in CertificateJob (brought_in a) n)
+  is-dv-taken : (n : ℕ) {h : Certificate} → ask_in a ≡ Some Verify → certifying t ≡ true → is_dv (role_of (brought_in a).certificate.rights) ≡ true → knows t.points (brought_in a).certificate.name ≡ false
+      → Holds t.points h → same_name (brought_in a).name h.name ≡ true → Fits t a z (DvTaken h.rights) (taken_in CertificateJob (brought_in a) n)
+  is-terminal-taken : (n : ℕ) → ask_in a ≡ Some Verify → certifying t ≡ true → role_of (brought_in a).certificate.rights ≡ Terminal → has_dv (chain_of t) ≡ true
+      → same_name (brought_in a).name (chain_of t).dv.name ≡ true → Fits t a z TerminalTaken (taken_in CertificateJob (brought_in a) n)
+  is-announced : ask_in a ≡ Some Announce → has_terminal (chain_of t) && unproven (context_of t).stage ≡ true → Fits t a z IsAnnounced (brought_in a)
+  is-challenged : {b : Brought} → ask_in a ≡ Some Challenge → is_announced (context_of t).stage || is_challenged (context_of t).stage ≡ true → Fits t a z IsChallenged b
+  is-proven : {b : Brought} → ask_in a ≡ Some Prove → is_challenged (context_of t).stage ≡ true → Fits t a z IsProven b
+  is-proof-lost : {b : Brought} → ask_in a ≡ Some Prove → is_challenged (context_of t).stage ≡ true → Fits t a z ProofLost b
+  is-chip-key-chosen : {b : Brought} → ask_in a ≡ Some ChooseChipKey → is_proven (context_of t).stage || is_chosen (context_of t).stage ≡ true → Fits t a z IsChosen b
+  is-authenticated : {b : Brought} → ask_in a ≡ Some (General Chip) → (context_of t).stage ≡ ChipKeyChosen → key_is (context_of t).key z ≡ true → Fits t a z IsAuthenticated b
+  is-chip-lost : {b : Brought} → ask_in a ≡ Some (General Chip) → (context_of t).stage ≡ ChipKeyChosen → Fits t a z ChipLost b
+  not-passed : {x : Ask} {b : Brought} → ask_in a ≡ Some x → Quiet x → Fits t a z NotPassed b
+  is_read : {n : ℕ} {b : Brought} → ask_in a ≡ Some (Read n) → Fits t a z ReadAllowed b
+  is-changed : {b : Brought} → ask_in a ≡ Some ChangePin → Fits t a z PinChanged b
+  is-unblocked-puk : {b : Brought} → ask_in a ≡ Some Unblock → Fits t a z UnblockedByPuk b
+  is-unblocked : {b : Brought} → ask_in a ≡ Some Unblock → Fits t a z UnblockedByRight b
+  is-activated : {b : Brought} → ask_in a ≡ Some Activate → Fits t a z Activated b
+  is-deactivated : {b : Brought} → ask_in a ≡ Some Deactivate → Fits t a z Deactivated b
 
 -- ---- a state within its limits, rung by rung
 
@@ -169,7 +170,7 @@ wants_verdict Deactivated = false
 wants_verdict NotPassed = false
 
 -- what comes without a verdict needs none
-data Ending·Fits (t : Token) (a : Asked) (z : List ℕ) (b : Brought) : Ending → Type 0 where
+data Ending·Fits (t : Token) (a : Option Given) (z : List ℕ) (b : Brought) : Ending → Type 0 where
   at_once : {e : Event} → Fits t a z e b → wants_verdict e ≡ false → Ending·Fits t a z b (Settled e)
   in-time : {j : Job} {x y : Event} → (matches j b.key z ≡ true → (n : ℕ) → Fits t a z x (taken_in j b n)) → Fits t a z y b → wants_verdict y ≡ false → Ending·Fits t a z b (Awaits j x y)
 
@@ -178,11 +179,11 @@ abbrev pub without : Ending → Event
 without (Settled e) = e
 without (Awaits j x y) = y
 
-modest : {t : Token} {a : Asked} {z : List ℕ} {b : Brought} {c : Ending} → Ending·Fits t a z b c → wants_verdict (without c) ≡ false
+modest : {t : Token} {a : Option Given} {z : List ℕ} {b : Brought} {c : Ending} → Ending·Fits t a z b c → wants_verdict (without c) ≡ false
 modest (at_once f w) = w
 modest (in-time f g w) = w
 
-abbrev Plan·Fits : Token → Asked → List ℕ → Plan → Type 0
+abbrev Plan·Fits : Token → Option Given → List ℕ → Plan → Type 0
 Plan·Fits t a z q = Ending·Fits t a z q.brought q.ending
 
 -- steps of one number are one step
@@ -209,7 +210,15 @@ rung : {A : Type 0} (P : A → Type 0) (b : Bool) {x y : A} → (b ≡ true → 
 rung P true f g = f refl
 rung P false f g = g refl
 
-module _ (t : Token) (a : Asked) (z : List ℕ) where
+-- a previous trust point that may be selected is held
+previous-held : (h : Points) → is_some h.previous ≡ true → Holds h (unwrap_or h.previous no_certificate)
+previous-held h = go h.previous refl
+  where
+    go : (o : Option Certificate) → h.previous ≡ o → is_some o ≡ true → Holds h (unwrap_or o no_certificate)
+    go None e s = true-false (sym s)
+    go (Some p) e s = as-previous e
+
+module _ (t : Token) (a : Option Given) (z : List ℕ) where
   abbrev Bare : Event → Type 0
   Bare e = Fits t a z e brought_none
 
@@ -238,8 +247,8 @@ module _ (t : Token) (a : Asked) (z : List ℕ) where
   unfolding active_plan
   active-fits e f = once _ (of-both On (manages_pin (context_of t)) f refused)
 
-  module _ {m : Kind} {ch : Bool} where
-    choose-fits : (c : Choice) → a.request ≡ Asks m ch (Choose c) → Plan·Fits t a z (choose_plan t.pin t.active t.puk (context_of t).opened c)
+  module _ where
+    choose-fits : (c : Choice) → ask_in a ≡ Some (Choose c) → Plan·Fits t a z (choose_plan t.pin t.active t.puk (context_of t).opened c)
     unfolding choose_plan
     choose-fits c q =
         once _
@@ -248,20 +257,20 @@ module _ (t : Token) (a : Asked) (z : List ℕ) where
         (of-both On (is_pin (password_of c) && eqb t.pin 1 && not (opened_by_can (context_of t).opened)) refused
         (of-both On (is_puk (password_of c) && eqb t.puk 0) refused (is-chosen q e, refl)))))
 
-    run_fits_lem : (x : Step) (c : Choice) (s : Step) → a.request ≡ Asks m ch (General (StepData x)) → (context_of t).stage ≡ Run c s → Plan·Fits t a z (run_plan t.pin c s (StepData x))
+    run_fits_lem : (x : Step) (c : Choice) (s : Step) → ask_in a ≡ Some (General (StepData x)) → (context_of t).stage ≡ Run c s → Plan·Fits t a z (run_plan t.pin c s (StepData x))
     unfolding run_plan
     run_fits_lem x c s q r =
         rung (Plan·Fits t a z) (not (is_for (StepData x) s)) (λ e. refuses Data)
-        (λ e. let d = q ∙ ap (λ (y : Step). Asks m ch (General (StepData y))) (same_step x s (not-false (is_for (StepData x) s) e)) in
+        (λ e. let d = q ∙ ap (λ (y : Step). Some (General (StepData y))) (same_step x s (not-false (is_for (StepData x) s) e)) in
         waits (StepJob s) (passed_event c s) (other_event c s t.pin) (λ k n. rung Bare (is_last s) (λ l. is-opened d r l) (λ l. is-stepped d r l))
         (of-both On (is_last s) (of-both On (is_pin (password_of c)) (is-trial-lost q r, refl) (is-run-closed q r, refl)) (is-run-closed q r, refl)))
 
-    chip-fits : (x : Content) → a.request ≡ Asks m ch (General x) → (context_of t).stage ≡ ChipKeyChosen → Plan·Fits t a z (chip_plan (context_of t).key x)
+    chip-fits : (x : Content) → ask_in a ≡ Some (General x) → (context_of t).stage ≡ ChipKeyChosen → Plan·Fits t a z (chip_plan (context_of t).key x)
     unfolding chip_plan
     chip-fits (StepData s) q r = refuses Data
     chip-fits Chip q r = in-time (λ k n. is-authenticated q r k) (is-chip-lost q r) refl
 
-    general-fits : (x : Content) (s : Stage) → a.request ≡ Asks m ch (General x) → (context_of t).stage ≡ s → Plan·Fits t a z (general_plan (context_of t).key t.pin s x)
+    general-fits : (x : Content) (s : Stage) → ask_in a ≡ Some (General x) → (context_of t).stage ≡ s → Plan·Fits t a z (general_plan (context_of t).key t.pin s x)
     unfolding general_plan
     general-fits (StepData x) (Run c s) q r = run_fits_lem x c s q r
     general-fits Chip (Run c s) q r = run-chip c s
@@ -272,73 +281,73 @@ module _ (t : Token) (a : Asked) (z : List ℕ) where
     general-fits x Proven q r = refuses Moment
     general-fits x Authenticated q r = refuses Moment
 
-    select-fits : (n : Name) → a.request ≡ Asks m ch Select → Plan·Fits t a z (select_plan t.points (chain_of t) n)
+    select-fits : (n : Name) → ask_in a ≡ Some Select → Plan·Fits t a z (select_plan t.points (chain_of t) n)
     unfolding select_plan
     select-fits n q = go (found t.points n) refl
       where
-        go : (x : Trusted) → found t.points n ≡ x → Plan·Fits t a z (select_by (chain_of t) n x)
-        go (Is i) e = once _ (is-selected q (found-holds t.points n i (has_dv (chain_of t)) e), refl)
-        go Unknown e =
+        go : (x : Option Issuer) → found t.points n ≡ x → Plan·Fits t a z (select_by (chain_of t) n x)
+        go (Some i) e = once _ (is-selected q (found-holds t.points n i (has_dv (chain_of t)) e), refl)
+        go None e =
             rung (Plan·Fits t a z) (has_dv (chain_of t) && same_name n (chain_of t).dv.name) (λ f. once _ (is-selected q (and_l (has_dv (chain_of t)) (same_name n (chain_of t).dv.name) f), refl)) (λ f. refuses NotFound)
 
     -- under each issuer, each role
-    module _ (q : a.request ≡ Asks m ch Verify) (c : certifying t ≡ true) where
-      taken-fits : (i : Issuer) (o : Role) → role_of a.brought.certificate.rights ≡ o → selectable (Chose i) t.points (has_dv (chain_of t)) ≡ true → not (issues i o) ≡ false
-          → repeats t.points (chain_of t).dv a.brought.certificate.name o ≡ false → not (same_name a.brought.name (issuer_of t.points i (chain_of t).dv).name) ≡ false
-          → (n : ℕ) → Fits t a z (taken_event o (issuer_of t.points i (chain_of t).dv).rights) (taken_in CertificateJob a.brought n)
+    module _ (q : ask_in a ≡ Some Verify) (c : certifying t ≡ true) where
+      taken-fits : (i : Issuer) (o : Role) → role_of (brought_in a).certificate.rights ≡ o → selectable (Some i) t.points (has_dv (chain_of t)) ≡ true → not (issues i o) ≡ false
+          → repeats t.points (chain_of t).dv (brought_in a).certificate.name o ≡ false → not (same_name (brought_in a).name (issuer_of t.points i (chain_of t).dv).name) ≡ false
+          → (n : ℕ) → Fits t a z (taken_event o (issuer_of t.points i (chain_of t).dv).rights) (taken_in CertificateJob (brought_in a) n)
       unfolding repeats
-      taken-fits Newest Cvca r s e f g n = is-link-taken n q c r (or_l (knows t.points a.brought.certificate.name) _ f)
-      taken-fits Newest OfficialDv r s e f g n = is-dv-taken n q c (rw r) (or_l (knows t.points a.brought.certificate.name) _ f) as-newest (not-false _ g)
-      taken-fits Newest OtherDv r s e f g n = is-dv-taken n q c (rw r) (or_l (knows t.points a.brought.certificate.name) _ f) as-newest (not-false _ g)
+      taken-fits Newest Cvca r s e f g n = is-link-taken n q c r (or_l (knows t.points (brought_in a).certificate.name) _ f)
+      taken-fits Newest OfficialDv r s e f g n = is-dv-taken n q c (rw r) (or_l (knows t.points (brought_in a).certificate.name) _ f) as-newest (not-false _ g)
+      taken-fits Newest OtherDv r s e f g n = is-dv-taken n q c (rw r) (or_l (knows t.points (brought_in a).certificate.name) _ f) as-newest (not-false _ g)
       taken-fits Newest Terminal r s e f g n = true-false e
-      taken-fits Previous Cvca r s e f g n = is-link-taken n q c r (or_l (knows t.points a.brought.certificate.name) _ f)
-      taken-fits Previous OfficialDv r s e f g n = is-dv-taken n q c (rw r) (or_l (knows t.points a.brought.certificate.name) _ f) (as-previous s) (not-false _ g)
-      taken-fits Previous OtherDv r s e f g n = is-dv-taken n q c (rw r) (or_l (knows t.points a.brought.certificate.name) _ f) (as-previous s) (not-false _ g)
+      taken-fits Previous Cvca r s e f g n = is-link-taken n q c r (or_l (knows t.points (brought_in a).certificate.name) _ f)
+      taken-fits Previous OfficialDv r s e f g n = is-dv-taken n q c (rw r) (or_l (knows t.points (brought_in a).certificate.name) _ f) (previous-held t.points s) (not-false _ g)
+      taken-fits Previous OtherDv r s e f g n = is-dv-taken n q c (rw r) (or_l (knows t.points (brought_in a).certificate.name) _ f) (previous-held t.points s) (not-false _ g)
       taken-fits Previous Terminal r s e f g n = true-false e
       taken-fits Dv Cvca r s e f g n = true-false e
       taken-fits Dv OfficialDv r s e f g n = true-false e
       taken-fits Dv OtherDv r s e f g n = true-false e
       taken-fits Dv Terminal r s e f g n = is-terminal-taken n q c r s (not-false _ g)
 
-      under-fits : (i : Issuer) → selectable (Chose i) t.points (has_dv (chain_of t)) ≡ true → Plan·Fits t a z (under_plan t.points (chain_of t).dv t.today i a.brought)
+      under-fits : (i : Issuer) → selectable (Some i) t.points (has_dv (chain_of t)) ≡ true → Plan·Fits t a z (under_plan t.points (chain_of t).dv t.today i (brought_in a))
       unfolding under_plan issued_ending
       under-fits i s =
           rung Ends (not (issues i o)) (λ e. no)
-          (λ e. rung Ends (repeats t.points (chain_of t).dv a.brought.certificate.name o) (λ f. no)
-          (λ f. rung Ends (not (same_name a.brought.name h.name)) (λ g. no)
-          (λ g. of-both Ends (late t.today a.brought.certificate h o) no (in-time (λ k. taken-fits i o refl s e f g) (not-passed q verifying) refl))))
+          (λ e. rung Ends (repeats t.points (chain_of t).dv (brought_in a).certificate.name o) (λ f. no)
+          (λ f. rung Ends (not (same_name (brought_in a).name h.name)) (λ g. no)
+          (λ g. of-both Ends (late t.today (brought_in a).certificate h o) no (in-time (λ k. taken-fits i o refl s e f g) (not-passed q verifying) refl))))
         where
           o : Role
-          o = role_of a.brought.certificate.rights
+          o = role_of (brought_in a).certificate.rights
 
           h : Certificate
           h = issuer_of t.points i (chain_of t).dv
 
           Ends : Ending → Type 0
-          Ends = Ending·Fits t a z a.brought
+          Ends = Ending·Fits t a z (brought_in a)
 
           no : {w : Refusal} → Ends (Settled (Refused w))
           no = at_once is-refused refl
 
-      verify-fits : (s : Selected) → selectable s t.points (has_dv (chain_of t)) ≡ true → Plan·Fits t a z (verify_plan t.points (chain_of t).dv t.today s a.brought)
+      verify-fits : (s : Option Issuer) → selectable s t.points (has_dv (chain_of t)) ≡ true → Plan·Fits t a z (verify_plan t.points (chain_of t).dv t.today s (brought_in a))
       unfolding verify_plan
-      verify-fits NoIssuer e = refuses Moment
-      verify-fits (Chose i) e = under-fits i e
+      verify-fits None e = refuses Moment
+      verify-fits (Some i) e = under-fits i e
 
-    announce-fits : a.request ≡ Asks m ch Announce → has_terminal (chain_of t) && unproven (context_of t).stage ≡ true → Plan·Fits t a z (announce_plan (chain_of t).terminal.name a.brought)
+    announce-fits : ask_in a ≡ Some Announce → has_terminal (chain_of t) && unproven (context_of t).stage ≡ true → Plan·Fits t a z (announce_plan (chain_of t).terminal.name (brought_in a))
     unfolding announce_plan
-    announce-fits q e = of-both (Plan·Fits t a z) (same_name a.brought.name (chain_of t).terminal.name) (at_once (is-announced q e) refl) (refuses NotFound)
+    announce-fits q e = of-both (Plan·Fits t a z) (same_name (brought_in a).name (chain_of t).terminal.name) (at_once (is-announced q e) refl) (refuses NotFound)
 
-    read_fits : (n : ℕ) → a.request ≡ Asks m ch (Read n) → Plan·Fits t a z (read_plan (context_of t) n)
+    read_fits : (n : ℕ) → ask_in a ≡ Some (Read n) → Plan·Fits t a z (read_plan (context_of t) n)
     unfolding read_plan
     read_fits n q = once _ (of-both On (reads_group (authorization (context_of t)) n) (is_read q, refl) refused)
 
-    change-fits : a.request ≡ Asks m ch ChangePin → Plan·Fits t a z (change_plan (context_of t) t.active)
+    change-fits : ask_in a ≡ Some ChangePin → Plan·Fits t a z (change_plan (context_of t) t.active)
     unfolding change_plan
     change-fits q =
         of-both (Plan·Fits t a z) ((opened_by_pin (context_of t).opened && t.active) || manages_pin (context_of t)) (waits PinChange PinChanged NotPassed (λ k n. is-changed q) (not-passed q changing, refl)) (refuses Lacking)
 
-    unblock-fits : a.request ≡ Asks m ch Unblock → Plan·Fits t a z (unblock_plan (context_of t) t.pin t.puk)
+    unblock-fits : ask_in a ≡ Some Unblock → Plan·Fits t a z (unblock_plan (context_of t) t.pin t.puk)
     unfolding unblock_plan
     unblock-fits q =
         once _
@@ -347,57 +356,64 @@ module _ (t : Token) (a : Asked) (z : List ℕ) where
         (of-both On (eqb t.pin tries) refused (of-both On (opened_by_puk (context_of t).opened) (is-unblocked-puk q, refl) (is-unblocked q, refl)))))
 
   -- every ask, at its moment
-  command-fits : {m : Kind} {ch : Bool} {x : Ask} → in_limits t ≡ true → Of m x → a.request ≡ Asks m ch x → moment_of t.session m ch ≡ true → Plan·Fits t a z (command_of t a x)
+  command-fits : {m : Kind} (ch : Bool) {x : Ask} → in_limits t ≡ true → Of m x → ask_in a ≡ Some x → moment_of t.session m ch ≡ true → Plan·Fits t a z (command_of t (brought_in a) x)
   unfolding command_of moment_of
-  command-fits l of-bad q e = refuses Data
-  command-fits l (of-choose {c = c}) q e = choose-fits c q
-  command-fits l (of-general {c = x}) q e = general-fits x (context_of t).stage q refl
-  command-fits l of-select q e = select-fits a.brought.name q
-  command-fits l of-verify q e = verify-fits q (and_l (certifying t) (is_selected t.session.selected) e) t.session.selected (limits_of t l).chosen
-  command-fits l of-announce q e = announce-fits q e
-  command-fits l of-challenge q e = waits ChallengeJob IsChallenged NotPassed (λ k n. is-challenged q e) (not-passed q challenging, refl)
-  command-fits l of-prove q e = waits Proof IsProven ProofLost (λ k n. is-proven q e) (is-proof-lost q e, refl)
-  command-fits l of-chip-key q e = once _ (is-chip-key-chosen q e, refl)
-  command-fits l (of-read {n = n}) q e = read_fits n q
-  command-fits l of-change-pin q e = change-fits q
-  command-fits l of-unblock q e = unblock-fits q
-  command-fits l of-activate q e = active-fits Activated (is-activated q, refl)
-  command-fits l of-deactivate q e = active-fits Deactivated (is-deactivated q, refl)
+  command-fits ch l (of-choose {c = c}) q e = choose-fits c q
+  command-fits ch l (of-general {c = x}) q e = general-fits x (context_of t).stage q refl
+  command-fits ch l of-select q e = select-fits (brought_in a).name q
+  command-fits ch l of-verify q e = verify-fits q (and_l (certifying t) (is_selected t.session.selected) e) t.session.selected (limits_of t l).chosen
+  command-fits ch l of-announce q e = announce-fits q e
+  command-fits ch l of-challenge q e = waits ChallengeJob IsChallenged NotPassed (λ k n. is-challenged q e) (not-passed q challenging, refl)
+  command-fits ch l of-prove q e = waits Proof IsProven ProofLost (λ k n. is-proven q e) (is-proof-lost q e, refl)
+  command-fits ch l of-chip-key q e = once _ (is-chip-key-chosen q e, refl)
+  command-fits ch l (of-read {n = n}) q e = read_fits n q
+  command-fits ch l of-change-pin q e = change-fits q
+  command-fits ch l of-unblock q e = unblock-fits q
+  command-fits ch l of-activate q e = active-fits Activated (is-activated q, refl)
+  command-fits ch l of-deactivate q e = active-fits Deactivated (is-deactivated q, refl)
 
-  timed-fits : (m : Kind) (ch : Bool) (x : Ask) → in_limits t ≡ true → Of m x → a.request ≡ Asks m ch x → Plan·Fits t a z (timed_of t a m ch x)
+module _ (t : Token) (z : List ℕ) where
+  given-fits : {m : Kind} (ch : Bool) (a : Option Given) → in_limits t ≡ true → ((x : Ask) → ask_in a ≡ Some x → Of m x) → moment_of t.session m ch ≡ true → Plan·Fits t a z (given_of t a)
+  unfolding given_of
+  given-fits ch None l o e = refuses t None z Data
+  given-fits ch (Some g) l o e = command-fits t (Some g) z ch l (o g.ask refl) refl e
+
+  timed-fits : (a : Asked) → in_limits t ≡ true → ((x : Ask) → ask_in a.given ≡ Some x → Of a.kind x) → Plan·Fits t a.given z (timed_of t a)
   unfolding timed_of
-  timed-fits m ch x l o q = rung (Plan·Fits t a z) (not (moment_of t.session m ch)) (λ e. refuses Moment) (λ e. command-fits l o q (not-false (moment_of t.session m ch) e))
+  timed-fits a l o =
+      rung (Plan·Fits t a.given z) (not (moment_of t.session a.kind a.chained)) (λ e. refuses t a.given z Moment)
+      (λ e. given-fits a.chained a.given l o (not-false (moment_of t.session a.kind a.chained) e))
 
-  guard-fits : (g : Guard) (p : Plan) → Plan·Fits t a z p → Plan·Fits t a z (guarded g p)
+  guard-fits : (a : Option Given) (g : Result ⊤ Loss) (p : Plan) → Plan·Fits t a z p → Plan·Fits t a z (guarded g p)
   unfolding guarded
-  guard-fits (Drops l) p f = once (Lost l) (is_lost_lem, refl)
-  guard-fits Passes p f = f
+  guard-fits a (Err l) p f = once t a z (Lost l) (is_lost_lem, refl)
+  guard-fits a (Ok passes) p f = f
 
 module _ (t : Token) (s z : List ℕ) where
-  request-fits : in_limits t ≡ true → (r : Request) → (asked_of s).request ≡ r → Plan·Fits t (asked_of s) z (requested_of t (asked_of s) r)
+  request-fits : in_limits t ≡ true → (r : Result Asked Refusal) → asked_of s ≡ r → Plan·Fits t (given_in r) z (requested_of t r)
   unfolding requested_of
-  request-fits l (Faulty w) q = refuses t (asked_of s) z w
-  request-fits l (Asks m ch x) q = timed-fits t (asked_of s) z m ch x l (kind-of s m ch x q) q
+  request-fits l (Err w) q = refuses t None z w
+  request-fits l (Ok a) q = timed-fits t z a l (kind-in s a q)
 
-  plan-fits : (note : Note) → Plan·Fits t (asked_of s) z (plan_of t s note)
+  plan-fits : (note : Note) → Plan·Fits t (given_in (asked_of s)) z (plan_of t s note)
   unfolding plan_of
   plan-fits note =
-      rung (Plan·Fits t (asked_of s) z) (not (in_limits t)) (λ e. refuses t (asked_of s) z Outside)
-      (λ e. guard-fits t (asked_of s) z (guard_of note (is_open (context_of t).opened)) _ (request-fits (not-false (in_limits t) e) (asked_of s).request refl))
+      rung (Plan·Fits t (given_in (asked_of s)) z) (not (in_limits t)) (λ e. refuses t (given_in (asked_of s)) z Outside)
+      (λ e. guard-fits t z (given_in (asked_of s)) (guard_of note (is_open (context_of t).opened)) _ (request-fits (not-false (in_limits t) e) (asked_of s) refl))
 
 -- no event that wants a verdict comes without a good one
 pub plan-modest : (t : Token) (s : List ℕ) (note : Note) → wants_verdict (without (plan_of t s note).ending) ≡ false
 plan-modest t s note = modest (plan-fits t s [] note)
 
 -- what happens fits
-pub fits : (t : Token) (x : Exchange) → let h = happened_of t x in Fits t (asked_of x.command) x.second h.event h.brought
+pub fits : (t : Token) (x : Exchange) → let h = happened_of t x in Fits t (given_in (asked_of x.command)) x.second h.event h.brought
 unfolding ends_by passes_by
 fits t x =
     decided-all (λ (h : Happened). Fits t a z h.event h.brought) q x.result (length x.first) z (λ e i. settled i f) (λ j u v i. otherwise i f)
     (λ j u v i g m n. passed n i m f)
   where
-    a : Asked
-    a = asked_of x.command
+    a : Option Given
+    a = given_in (asked_of x.command)
 
     z : List ℕ
     z = x.second

@@ -1,4 +1,5 @@
 -- Every state that is reached from within the limits is within the limits. Assumes nothing.
+use Rattle.std.specs.Prelude.{Option, Some, None, Result, Ok, Err, is_ok}
 use Prim.Native.Nat.{ℕ, ◌-◌}
 use mathlib.Core.Bool.{Bool, true, false, cond, not, ◌&&◌, ◌||◌}
 use mathlib.Core.Path.{◌≡◌, refl, sym, ap, subst}
@@ -19,8 +20,6 @@ use Rattle.certificate.specs.declared.Certificate.{Certificate}
 use Rattle.brought.specs.declared.Brought.{Brought}
 use Rattle.rights.specs.declared.Rights.{Rights}
 use Rattle.roles.specs.declared.Role.TheVariants.{Cvca, Terminal}
-use Rattle.rights.specs.declared.Granted.{Granted}
-use Rattle.rights.specs.declared.Granted.TheVariants.{These, NoRights}
 use Rattle.run.specs.declared.Choice.{Choice}
 use Rattle.run.specs.declared.Choice.TheVariants.{Mrz, Can, CanFor, Pin, PinFor, Puk}
 use Rattle.run.specs.declared.Step.{Step}
@@ -32,13 +31,11 @@ use Rattle.trust.specs.Trust.{trust_point_fits, points_fit, knows, holds}
 use Rattle.trust.specs.declared.Points.{Points}
 use Rattle.trust.proofs.Laws.{Holds, held_fits, linked-fits}
 use Rattle.fields.specs.declared.asked.Ask.{Ask}
-use Rattle.fields.specs.declared.asked.Request.TheVariants.{Asks}
+use Rattle.event.specs.declared.Refusal.{Refusal}
+use Rattle.fields.specs.declared.given.Given.{Given}
 use Rattle.fields.specs.declared.asked.Asked.{Asked}
-use Rattle.command.specs.declared.kind.Kind.{Kind}
 use Rattle.fields.specs.Asked.{asked_of}
-use Rattle.fields.proofs.Facts.{Within as Named, within-limits}
-use Rattle.standing.specs.declared.Opened.{Opened}
-use Rattle.standing.specs.declared.Opened.TheVariants.{Nobody, By}
+use Rattle.fields.proofs.Facts.{Within as Named, ask_in, brought_in, brought-in}
 use Rattle.standing.specs.declared.Reach.{Reach}
 use Rattle.standing.specs.declared.Reach.TheVariants.{Empty, ToDv, ToTerminal}
 use Rattle.standing.specs.declared.Chain.{Chain}
@@ -51,13 +48,13 @@ use Rattle.standing.specs.Standing.{opened_by_pin, opened_by_can, has_rights, re
 use Rattle.session.specs.Session.{bare_session, at_stage, announced_with, chained_to}
 use Rattle.session_limits.specs.SessionLimits.{granted_fits, trusted_fits, dv_fits, terminal_fits, reach_fits, chain_fits, run_fits, stage_fits, ground_fits, context_fits}
 use Rattle.token.specs.declared.state.Token.{Token}
-use Rattle.status.specs.declared.Intake.TheVariants.{Accepted, Unfit}
-use Rattle.token.specs.declared.state.Personalised.{Personalised}
-use Rattle.token.specs.State.{uses, with_session, with_pin, with_active, reset_of, start_of, no_token, made_of, context_of, chain_of}
+use Rattle.status.specs.declared.Unfit.{Unfit}
+use Rattle.token.specs.State.{uses, with_session, with_pin, with_active, reset_of, start_of, made_of, made_token, context_of, chain_of}
 use Rattle.token.specs.After.{choice_taken, staged, step_passed, tries_after, opened, run_closed, trial_lost, issuer_selected, link_taken, dv_taken, extended, terminal_taken, announced, unblocked, unblocked_by_puk, after_of}
 use Rattle.token.specs.Step.{Exchange, Stepped, happened_of, next_of, step_of}
 use Rattle.reply.specs.Reply.{room}
-use Rattle.reached.proofs.Fits.{InLimits, certifying, Fits, is-refused, is_lost_lem, is-chosen, is-stepped, is-opened, is-run-closed, is-trial-lost, is-selected, is-link-taken, is-dv-taken, is-terminal-taken, is-announced, is-challenged, is-proven, is-proof-lost, is-chip-key-chosen, is-authenticated, is-chip-lost, not-passed, is_read, is-changed, is-unblocked-puk, is-unblocked, is-activated, is-deactivated, fits}
+use Rattle.reached.proofs.Fits.{InLimits, certifying, Fits, is-refused, is_lost_lem, is-chosen, is-stepped, is-opened, is-run-closed, is-trial-lost, is-selected, is-link-taken, is-dv-taken, is-terminal-taken, is-announced, is-challenged, is-proven, is-proof-lost, is-chip-key-chosen, is-authenticated, is-chip-lost, not-passed, is_read, is-changed, is-unblocked-puk, is-unblocked, is-activated, is-deactivated, given_in, fits}
+use Rattle.run.specs.declared.Password.{Password}
 
 -- ---- the rungs of a session
 
@@ -91,7 +88,7 @@ or_yes true b e = refl
 or_yes false b e = e
 
 -- nothing but an opener, rights and a stage before announced
-bare-in : (o : Opened) (g : Granted) (s : Stage) (pin : ℕ) → granted_fits g ≡ true → stage_fits s pin ≡ true → not (has_rights g) || (opened_by_pin o || opened_by_can o) ≡ true
+bare-in : (o : Option Password) (g : Option Rights) (s : Stage) (pin : ℕ) → granted_fits g ≡ true → stage_fits s pin ≡ true → not (has_rights g) || (opened_by_pin o || opened_by_can o) ≡ true
     → from_announced s ≡ false → InContext (bare_session o g s).context pin
 unfolding no_chain no_key chain_fits key_fits
 bare-in o g s pin a b c d = record { rights = a; chain = refl; stage = b; key = refl; opener = c; chain-confirmed = refl; grounds = rw d }
@@ -192,7 +189,7 @@ names-opener Pin = refl
 names-opener (PinFor r) = refl
 names-opener Puk = refl
 
-named_in : (c : Choice) → ((r : Rights) → rights_named c ≡ These r → rights_fit r ≡ true) → granted_fits (rights_named c) ≡ true
+named_in : (c : Choice) → ((r : Rights) → rights_named c ≡ Some r → rights_fit r ≡ true) → granted_fits (rights_named c) ≡ true
 named_in Mrz f = refl
 named_in Can f = refl
 named_in (CanFor r) f = f r refl
@@ -201,8 +198,8 @@ named_in (PinFor r) f = f r refl
 named_in Puk f = refl
 
 -- what a command brings is within its limits
-abbrev pub Sound : Asked → Type 0
-Sound a = (m : Kind) (ch : Bool) (x : Ask) → a.request ≡ Asks m ch x → Named x a.brought
+abbrev pub Sound : Option Given → Type 0
+Sound a = (x : Ask) → ask_in a ≡ Some x → Named x (brought_in a)
 
 -- ---- every event keeps the limits
 
@@ -211,17 +208,17 @@ module _ (t : Token) (l : InLimits t) where
   context-in = context-of (context_of t) t.pin l.context
 
   -- another session with an empty chain, and perhaps another counter
-  bare : (o : Opened) (g : Granted) (s : Stage) (pin : ℕ) → leb pin tries ≡ true → InContext (bare_session o g s).context pin → InLimits (with_pin (with_session t (bare_session o g s)) pin)
+  bare : (o : Option Password) (g : Option Rights) (s : Stage) (pin : ℕ) → leb pin tries ≡ true → InContext (bare_session o g s).context pin → InLimits (with_pin (with_session t (bare_session o g s)) pin)
   unfolding no_chain
   bare o g s pin e c = record { pin = e; puk = l.puk; today = l.today; points = l.points; context = in-context c; dv = refl; chosen = refl }
 
   lost : InLimits (reset_of t)
   unfolding reset_of
-  lost = bare Nobody NoRights Idle t.pin l.pin (bare-in Nobody NoRights Idle t.pin refl refl refl refl)
+  lost = bare None None Idle t.pin l.pin (bare-in None None Idle t.pin refl refl refl refl)
 
   closed : (pin : ℕ) → leb pin tries ≡ true → InLimits (with_pin (run_closed t) pin)
   unfolding run_closed
-  closed pin e = bare (context_of t).opened NoRights Idle pin e (bare-in (context_of t).opened NoRights Idle pin refl refl refl refl)
+  closed pin e = bare (context_of t).opened None Idle pin e (bare-in (context_of t).opened None Idle pin refl refl refl refl)
 
   at : (s : Stage) → stage_fits s t.pin ≡ true → not (from_announced s) || from_announced (context_of t).stage ≡ true → InLimits (staged t s)
   unfolding staged
@@ -253,11 +250,11 @@ module _ (t : Token) (l : InLimits t) where
   unfolding issuer_selected
   selected-in i e = record { pin = l.pin; puk = l.puk; today = l.today; points = l.points; context = l.context; dv = l.dv; chosen = e }
 
-  chosen-in : (c : Choice) → is_pin (password_of c) && eqb t.pin 0 ≡ false → ((r : Rights) → rights_named c ≡ These r → rights_fit r ≡ true) → InLimits (choice_taken t c)
+  chosen-in : (c : Choice) → is_pin (password_of c) && eqb t.pin 0 ≡ false → ((r : Rights) → rights_named c ≡ Some r → rights_fit r ≡ true) → InLimits (choice_taken t c)
   unfolding choice_taken
   chosen-in c e f =
-      bare (context_of t).opened NoRights (Run c Nonce) t.pin l.pin
-      (bare-in (context_of t).opened NoRights (Run c Nonce) t.pin refl (rw e (named_in c f)) refl refl)
+      bare (context_of t).opened None (Run c Nonce) t.pin l.pin
+      (bare-in (context_of t).opened None (Run c Nonce) t.pin refl (rw e (named_in c f)) refl refl)
 
   stepped-in : (c : Choice) (s : Step) → (context_of t).stage ≡ Run c s → InLimits (step_passed t c s)
   unfolding step_passed
@@ -268,8 +265,8 @@ module _ (t : Token) (l : InLimits t) where
   opened_in c s e =
       let r : run_fits c s t.pin ≡ true = subst (λ (z : Stage). stage_fits z t.pin ≡ true) e context-in.stage in
       let g : granted_fits (rights_named c) ≡ true = and_r (not (is_pin (password_of c) && eqb t.pin 0)) (granted_fits (rights_named c)) r in
-      bare (By (password_of c)) (rights_named c) Idle (tries_after c t.pin) (of-both (λ (k : ℕ). leb k tries ≡ true) (is_pin (password_of c)) refl l.pin)
-      (bare-in (By (password_of c)) (rights_named c) Idle (tries_after c t.pin) g refl (names-opener c) refl)
+      bare (Some (password_of c)) (rights_named c) Idle (tries_after c t.pin) (of-both (λ (k : ℕ). leb k tries ≡ true) (is_pin (password_of c)) refl l.pin)
+      (bare-in (Some (password_of c)) (rights_named c) Idle (tries_after c t.pin) g refl (names-opener c) refl)
 
   module _ (p : Certificate) (n : ℕ) (f : certificate_fits p ≡ true) (c : certifying t ≡ true) where
     confirmed : has_rights (context_of t).confirmed ≡ true
@@ -342,20 +339,20 @@ module _ (t : Token) (l : InLimits t) where
   from-proof when-proven = refl
   from-proof when-chosen = refl
 
-  pub keep-in : {a : Asked} {z : List ℕ} {e : Event} {b : Brought} → Sound a → Fits t a z e b → InLimits (after_of t e b)
+  pub keep-in : {a : Option Given} {z : List ℕ} {e : Event} {b : Brought} → Sound a → Fits t a z e b → InLimits (after_of t e b)
   unfolding after_of run_closed
   keep-in s is-refused = l
   keep-in s is_lost_lem = lost
-  keep-in s (is-chosen {c = c} q e) = chosen-in c e (s _ _ _ q)
+  keep-in s (is-chosen {c = c} q e) = chosen-in c e (s _ q)
   keep-in s (is-stepped {c = c} {s = p} q e f) = stepped-in c p e
   keep-in s (is-opened {c = c} {s = p} q e f) = opened_in c p e
   keep-in s (is-run-closed q e) = closed t.pin l.pin
   keep-in s (is-trial-lost q e) = fell
   keep-in s (is-selected {i = i} q e) = selected-in i e
-  keep-in s (is-link-taken n q c r k) = link-in _ n (s _ _ _ q).0 c r k
-  keep-in s (is-dv-taken n q c r k h e) = dv-in _ n (s _ _ _ q).0 c r k h
-  keep-in s (is-terminal-taken n q c r h e) = terminal-in _ n (s _ _ _ q).0 c r h
-  keep-in s (is-announced q e) = let w = s _ _ _ q in announced-in _ w.0 w.1 (and_l (has_terminal (chain_of t)) (unproven (context_of t).stage) e)
+  keep-in s (is-link-taken n q c r k) = link-in _ n (s _ q).0 c r k
+  keep-in s (is-dv-taken n q c r k h e) = dv-in _ n (s _ q).0 c r k h
+  keep-in s (is-terminal-taken n q c r h e) = terminal-in _ n (s _ q).0 c r h
+  keep-in s (is-announced q e) = let w = s _ q in announced-in _ w.0 w.1 (and_l (has_terminal (chain_of t)) (unproven (context_of t).stage) e)
   keep-in s (is-challenged q e) = at-later Challenged refl (from-challenge (challengeable (context_of t).stage e))
   keep-in s (is-proven q e) = at-later Proven refl (ap from_announced (challenged-is (context_of t).stage e))
   keep-in s (is-proof-lost q e) = at-later Announced refl (ap from_announced (challenged-is (context_of t).stage e))
@@ -372,8 +369,12 @@ module _ (t : Token) (l : InLimits t) where
 
 -- ---- a step, a reset, a personalisation
 
-asked-sound : (s : List ℕ) → Sound (asked_of s)
-asked-sound s m ch x q = within-limits s m ch x q
+asked-sound : (s : List ℕ) → Sound (given_in (asked_of s))
+asked-sound s = go (asked_of s) refl
+  where
+    go : (r : Result Asked Refusal) → asked_of s ≡ r → Sound (given_in r)
+    go (Err w) e x q = true-false (cc)
+    go (Ok a) e x q = brought-in s a e x q
 
 pub reset-in : (t : Token) → InLimits t → InLimits (reset_of t)
 reset-in t l = lost t l
@@ -393,18 +394,18 @@ start-in h d e =
       puk = refl;
       today = and_r (points_fit h) (day_fits d) e;
       points = and_l (points_fit h) (day_fits d) e;
-      context = in-context (bare-in Nobody NoRights Idle tries refl refl refl refl);
+      context = in-context (bare-in None None Idle tries refl refl refl refl);
       dv = refl;
       chosen = refl;
     }
 
 -- an accepted personalisation makes the start values, within the limits
-pub made_in : (h : Points) (d : Day) → (made_of h d).made ≡ Accepted → ((made_of h d).token ≡ start_of h d) × InLimits (start_of h d)
+pub made_in : (h : Points) (d : Day) → is_ok (made_of h d) ≡ true → (made_token (made_of h d) ≡ start_of h d) × InLimits (start_of h d)
 unfolding made_of
 made_in h d = go (points_fit h && day_fits d) refl
   where
     go : (b : Bool) → points_fit h && day_fits d ≡ b
-        → (cond {A = Personalised} b (record { made = Accepted; token = start_of h d }) (record { made = Unfit; token = no_token })).made ≡ Accepted
-        → ((cond {A = Personalised} b (record { made = Accepted; token = start_of h d }) (record { made = Unfit; token = no_token })).token ≡ start_of h d) × InLimits (start_of h d)
+        → is_ok (cond {A = Result Token Unfit} b (Ok (start_of h d)) (Err (record {}))) ≡ true
+        → (made_token (cond b (Ok (start_of h d)) (Err (record {}))) ≡ start_of h d) × InLimits (start_of h d)
     go true e q = (refl, start-in h d e)
     go false e q = true-false (cc)

@@ -1,9 +1,9 @@
 -- The token and the rule agree: an invariant between the token and the rule's own functions, kept by every event.
 -- Assumes nothing.
+use Rattle.std.specs.Prelude.{Option, Some, None}
 use Prim.Native.Nat.{ℕ}
 use mathlib.Core.Bool.{Bool, true, false, cond, ◌||◌}
 use mathlib.Core.Path.{◌≡◌, refl, sym, ap, subst, ◌∙◌}
-use mathlib.Core.Option.{Option, none, some}
 use mathlib.Core.List.{List, [], ◌∷◌}
 use Rattle.laws.proofs.Bools.{true-false, and_l, or-then}
 use Rattle.names.specs.Names.{same_name}
@@ -19,8 +19,6 @@ use Rattle.certificate.specs.declared.Certificate.{Certificate}
 use Rattle.rights.specs.declared.Rights.{Rights}
 use Rattle.roles.specs.declared.Role.{Role}
 use Rattle.roles.specs.declared.Role.TheVariants.{Cvca, OfficialDv, OtherDv, Terminal}
-use Rattle.rights.specs.declared.Granted.{Granted}
-use Rattle.rights.specs.declared.Granted.TheVariants.{These, NoRights}
 use Rattle.run.specs.declared.Password.{Password}
 use Rattle.run.specs.declared.Choice.{Choice}
 use Rattle.run.specs.declared.Step.{Step}
@@ -30,9 +28,7 @@ use Rattle.event.specs.declared.Event.{Event}
 use Rattle.trust.specs.Trust.{points_fit, points_held, linked}
 use Rattle.trust.proofs.Laws.{Holds, first_named, by_name}
 use Rattle.trust.specs.declared.Points.{Points}
-use Rattle.fields.specs.declared.asked.Asked.{Asked}
-use Rattle.standing.specs.declared.Opened.{Opened}
-use Rattle.standing.specs.declared.Opened.TheVariants.{Nobody, By}
+use Rattle.fields.specs.declared.given.Given.{Given}
 use Rattle.standing.specs.declared.Reach.{Reach}
 use Rattle.standing.specs.declared.Reach.TheVariants.{Empty, ToDv, ToTerminal}
 use Rattle.standing.specs.declared.Chain.{Chain}
@@ -46,6 +42,7 @@ use Rattle.token.specs.declared.state.Token.{Token}
 use Rattle.token.specs.State.{reset_of, start_of, context_of}
 use Rattle.token.specs.After.{choice_taken, staged, step_passed, opened, run_closed, trial_lost, issuer_selected, link_taken, dv_taken, extended, terminal_taken, announced, unblocked, unblocked_by_puk, after_of}
 use Rattle.reached.proofs.Fits.{InLimits, Fits, is-refused, is_lost_lem, is-chosen, is-stepped, is-opened, is-run-closed, is-trial-lost, is-selected, is-link-taken, is-dv-taken, is-terminal-taken, is-announced, is-challenged, is-proven, is-proof-lost, is-chip-key-chosen, is-authenticated, is-chip-lost, not-passed, is_read, is-changed, is-unblocked-puk, is-unblocked, is-activated, is-deactivated}
+use Rattle.fields.proofs.Facts.{brought_in}
 use Rattle.reached.proofs.Within.{context-of}
 use Rattle.rule.specs.Facts.{Fact, Taken, StepPassed, Accepted, Announced, Challenged, Proved, ProofFailed, ChipPassed, Lost, Nothing, TrustPoint, Seen, is_key, linked_by, held_after, rights_of}
 use Rattle.rule.specs.Rule.{given, or_else, last_choice, steps, four_steps, naming, named, confirmed, Dv, ChainRights, dv_by, last_dv, under, chain, announced_key, challenged, proven, authenticated}
@@ -54,24 +51,24 @@ use Rattle.record.proofs.Words.{fact_at}
 
 -- ---- what a session holds, in the rule's terms
 
-abbrev pub confirmed_by : Opened → Granted → Option (Password × Rights)
-confirmed_by Nobody g = none
-confirmed_by (By w) g = naming w g
+abbrev pub confirmed_by : Option Password → Option Rights → Option (Password × Rights)
+confirmed_by None g = None
+confirmed_by (Some w) g = naming w g
 
 -- the DV, if there is one, is the record's latest
 abbrev pub Below : Reach → Certificate → Option Dv → Type 0
 Below Empty d o = Unit {0}
-Below (ToDv trusted) d o = o ≡ some (record { trusted = some trusted; name = d.name; rights = d.rights })
-Below (ToTerminal trusted) d o = o ≡ some (record { trusted = some trusted; name = d.name; rights = d.rights })
+Below (ToDv trusted) d o = o ≡ Some (record { trusted = Some trusted; name = d.name; rights = d.rights })
+Below (ToTerminal trusted) d o = o ≡ Some (record { trusted = Some trusted; name = d.name; rights = d.rights })
 
 abbrev pub chain_rights_of : Reach → Certificate → Certificate → Option ChainRights
-chain_rights_of Empty d u = none
-chain_rights_of (ToDv trusted) d u = none
-chain_rights_of (ToTerminal trusted) d u = some (record { trusted = trusted; dv = d.rights; terminal = u.rights })
+chain_rights_of Empty d u = None
+chain_rights_of (ToDv trusted) d u = None
+chain_rights_of (ToTerminal trusted) d u = Some (record { trusted = trusted; dv = d.rights; terminal = u.rights })
 
 -- from announced on a key stands
 abbrev pub announced_by : Stage → Key → Option Key
-announced_by s k = cond (from_announced s) (some k) none
+announced_by s k = cond (from_announced s) (Some k) None
 
 -- the steps passed before this one, newest first
 abbrev pub turns : Step → List Step
@@ -83,7 +80,7 @@ turns Confirm = Agree ∷ Map ∷ Nonce ∷ []
 -- in a run the choice is the record's last, and its steps are those passed so far
 abbrev pub Running : Stage → Option Choice → List Step → Option ChainRights → Type 0
 Running Idle c l b = Unit {0}
-Running (Run c s) o l b = (o ≡ some c) × (l ≡ turns s) × (b ≡ none)
+Running (Run c s) o l b = (o ≡ Some c) × (l ≡ turns s) × (b ≡ None)
 Running AtAnnounced c l b = Unit {0}
 Running AtChallenged c l b = Unit {0}
 Running AtProven c l b = Unit {0}
@@ -104,26 +101,26 @@ pub record Inv (now : List TrustPoint) (ps : Points) (c : Context) (r : List See
 -- ---- small facts
 
 -- a trust point that is held is found by its name
-rights-first : (l : List Certificate) (n : Name) → rights_of (as_trust_points l) n ≡ first_named n (λ p. some p.rights) none l
+rights-first : (l : List Certificate) (n : Name) → rights_of (as_trust_points l) n ≡ first_named n (λ p. Some p.rights) None l
 rights-first [] n = refl
-rights-first (p ∷ older) n = ap (λ (x : Option Rights). cond (same_name n p.name) (some p.rights) x) (rights-first older n)
+rights-first (p ∷ older) n = ap (λ (x : Option Rights). cond (same_name n p.name) (Some p.rights) x) (rights-first older n)
 
-found : (ps : Points) {p : Certificate} (n : Name) → points_fit ps ≡ true → Holds ps p → same_name n p.name ≡ true → rights_of (trust_points ps) n ≡ some p.rights
-found ps n f g e = rights-first (points_held ps) n ∙ by_name ps f n (λ q. some q.rights) none g e
+found : (ps : Points) {p : Certificate} (n : Name) → points_fit ps ≡ true → Holds ps p → same_name n p.name ≡ true → rights_of (trust_points ps) n ≡ Some p.rights
+found ps n f g e = rights-first (points_held ps) n ∙ by_name ps f n (λ q. Some q.rights) None g e
 
-no-rights : (o : Opened) → confirmed_by o NoRights ≡ none
-no-rights Nobody = refl
-no-rights (By w) = refl
+no-rights : (o : Option Password) → confirmed_by o None ≡ None
+no-rights None = refl
+no-rights (Some w) = refl
 
 -- confirmed rights stand in a session that the PIN or the CAN opened
-pub opener-open : (o : Opened) → opened_by_pin o || opened_by_can o ≡ true → is_open o ≡ true
-opener-open Nobody e = e
-opener-open (By w) e = refl
+pub opener-open : (o : Option Password) → opened_by_pin o || opened_by_can o ≡ true → is_open o ≡ true
+opener-open None e = e
+opener-open (Some w) e = refl
 
-names-some : (o : Opened) (g : Granted) → is_open o ≡ true → has_rights g ≡ true → given (confirmed_by o g) ≡ true
-names-some Nobody g e f = e
-names-some (By w) (These r) e f = refl
-names-some (By w) NoRights e f = f
+names-some : (o : Option Password) (g : Option Rights) → is_open o ≡ true → has_rights g ≡ true → given (confirmed_by o g) ≡ true
+names-some None g e f = e
+names-some (Some w) (Some r) e f = refl
+names-some (Some w) None e f = f
 
 confirms : (t : Token) → InLimits t → has_rights (context_of t).confirmed ≡ true → given (confirmed_by (context_of t).opened (context_of t).confirmed) ≡ true
 confirms t l h =
@@ -132,11 +129,11 @@ confirms t l h =
     (opener-open c.opened (or-then (has_rights c.confirmed) (opened_by_pin c.opened || opened_by_can c.opened) (context-of c t.pin l.context).opener h)) h
 
 -- fewer than four steps
-few : (x : Option (Password × Rights)) (s : Step) {l : List Step} → l ≡ turns s → cond (four_steps l) x none ≡ none
-few x Nonce e = ap (λ (k : List Step). cond (four_steps k) x none) e
-few x Map e = ap (λ (k : List Step). cond (four_steps k) x none) e
-few x Agree e = ap (λ (k : List Step). cond (four_steps k) x none) e
-few x Confirm e = ap (λ (k : List Step). cond (four_steps k) x none) e
+few : (x : Option (Password × Rights)) (s : Step) {l : List Step} → l ≡ turns s → cond (four_steps l) x None ≡ None
+few x Nonce e = ap (λ (k : List Step). cond (four_steps k) x None) e
+few x Map e = ap (λ (k : List Step). cond (four_steps k) x None) e
+few x Agree e = ap (λ (k : List Step). cond (four_steps k) x None) e
+few x Confirm e = ap (λ (k : List Step). cond (four_steps k) x None) e
 
 next : (s : Step) → is_last s ≡ false → s ∷ turns s ≡ turns (next_step s)
 next Nonce e = refl
@@ -163,11 +160,11 @@ module _ {now : List TrustPoint} {ps : Points} {r : List Seen} where
   pub quiet : {c : Context} → Inv now ps c r → Inv now ps c (more now Nothing r)
   quiet i = record { points = i.points; rights = i.rights; dv = i.dv; terminal = i.terminal; key = i.key; chal = i.chal; prov = i.prov; auth = i.auth; run = i.run }
 
-  lost : {c : Context} → Inv now ps c r → Inv now ps (bare_session Nobody NoRights Idle).context (more now Lost r)
+  lost : {c : Context} → Inv now ps c r → Inv now ps (bare_session None None Idle).context (more now Lost r)
   unfolding no_chain
   lost i = record { points = i.points; rights = refl; dv = tt; terminal = refl; key = refl; chal = refl; prov = refl; auth = refl; run = tt }
 
-  taken : (o : Opened) (d : Choice) {c : Context} → Inv now ps c r → Inv now ps (bare_session o NoRights (Run d Nonce)).context (more now (Taken d) r)
+  taken : (o : Option Password) (d : Choice) {c : Context} → Inv now ps c r → Inv now ps (bare_session o None (Run d Nonce)).context (more now (Taken d) r)
   unfolding no_chain
   taken o d i = record { points = i.points; rights = no-rights o; dv = tt; terminal = refl; key = refl; chal = refl; prov = refl; auth = refl; run = (refl, refl, refl) }
 
@@ -188,7 +185,7 @@ module _ {now : List TrustPoint} {ps : Points} {r : List Seen} where
           run = (i.run.0, n, i.run.2);
         }
 
-    open-now : (s : Step) → is_last s ≡ true → Inv now ps (at c (Run d s)) r → Inv now ps (bare_session (By (password_of d)) (rights_named d) Idle).context (more now (StepPassed Confirm) r)
+    open-now : (s : Step) → is_last s ≡ true → Inv now ps (at c (Run d s)) r → Inv now ps (bare_session (Some (password_of d)) (rights_named d) Idle).context (more now (StepPassed Confirm) r)
     unfolding no_chain
     open-now Nonce e i = true-false (sym e)
     open-now Map e i = true-false (sym e)
@@ -196,7 +193,7 @@ module _ {now : List TrustPoint} {ps : Points} {r : List Seen} where
     open-now Confirm e i =
         record {
           points = i.points;
-          rights = sym (ap (λ (l : List Step). cond (four_steps (Confirm ∷ l)) (named (last_choice r)) none) i.run.1 ∙ ap named i.run.0);
+          rights = sym (ap (λ (l : List Step). cond (four_steps (Confirm ∷ l)) (named (last_choice r)) None) i.run.1 ∙ ap named i.run.0);
           dv = tt;
           terminal = sym i.run.2;
           key = i.key;
@@ -206,7 +203,7 @@ module _ {now : List TrustPoint} {ps : Points} {r : List Seen} where
           run = tt;
         }
 
-    closed : (o : Opened) (s : Step) → Inv now ps (at c (Run d s)) r → Inv now ps (bare_session o NoRights Idle).context (more now Nothing r)
+    closed : (o : Option Password) (s : Step) → Inv now ps (at c (Run d s)) r → Inv now ps (bare_session o None Idle).context (more now Nothing r)
     unfolding no_chain
     closed o s i =
         record { points = i.points; rights = no-rights o ∙ sym (few (named (last_choice r)) s i.run.1); dv = tt; terminal = sym i.run.2; key = i.key; chal = i.chal; prov = i.prov; auth = i.auth; run = tt }
@@ -222,13 +219,13 @@ module _ {now : List TrustPoint} {ps : Points} {r : List Seen} where
     held_by : (o : Role) → role_of p.rights ≡ o → held_after now (Accepted n p) ≡ linked_by (trust_points ps) p o
     held_by o e = ap (λ (x : Role). linked_by now p x) e ∙ ap (λ (x : List TrustPoint). linked_by x p o) (sym i.points)
 
-    dv-at : (o : Role) → role_of p.rights ≡ o → last_dv (more now (Accepted n p) r) ≡ or_else (dv_by (given (confirmed r)) (trust_points ps) n p o) (cond (is_cvca o) none (last_dv r))
+    dv-at : (o : Role) → role_of p.rights ≡ o → last_dv (more now (Accepted n p) r) ≡ or_else (dv_by (given (confirmed r)) (trust_points ps) n p o) (cond (is_cvca o) None (last_dv r))
     dv-at o e =
-        ap (λ (x : Role). or_else (dv_by (given (confirmed r)) now n p x) (cond (is_cvca x) none (last_dv r))) e
-        ∙ ap (λ (x : List TrustPoint). or_else (dv_by (given (confirmed r)) x n p o) (cond (is_cvca o) none (last_dv r))) (sym i.points)
+        ap (λ (x : Role). or_else (dv_by (given (confirmed r)) now n p x) (cond (is_cvca x) None (last_dv r))) e
+        ∙ ap (λ (x : List TrustPoint). or_else (dv_by (given (confirmed r)) x n p o) (cond (is_cvca o) None (last_dv r))) (sym i.points)
 
-    none-under : (o : Role) → role_of p.rights ≡ o → under (last_dv r) n p o ≡ none → none ≡ chain (more now (Accepted n p) r)
-    none-under o e f = sym (ap (λ (x : Role). or_else (under (last_dv r) n p x) none) e ∙ ap (λ (x : Option ChainRights). or_else x none) f)
+    none-under : (o : Role) → role_of p.rights ≡ o → under (last_dv r) n p o ≡ None → None ≡ chain (more now (Accepted n p) r)
+    none-under o e f = sym (ap (λ (x : Role). or_else (under (last_dv r) n p x) None) e ∙ ap (λ (x : Option ChainRights). or_else x None) f)
 
     linked-now : (k : ℕ) → role_of p.rights ≡ Cvca
         → Inv (held_after now (Accepted n p)) (linked ps (with_key p k)) (record { opened = c.opened; confirmed = c.confirmed; chain = no_chain; stage = Idle; key = no_key }) (more now (Accepted n p) r)
@@ -242,9 +239,9 @@ module _ {now : List TrustPoint} {ps : Points} {r : List Seen} where
     deputed-now {q} k f a e g s = go (role_of p.rights) refl e
       where
         dv-of : Option Rights → Option Dv
-        dv-of x = some (record { trusted = x; name = p.name; rights = p.rights })
+        dv-of x = Some (record { trusted = x; name = p.name; rights = p.rights })
 
-        counts : (o : Role) → role_of p.rights ≡ o → is_dv o ≡ true → is_cvca o ≡ false → last_dv (more now (Accepted n p) r) ≡ dv-of (some q.rights)
+        counts : (o : Role) → role_of p.rights ≡ o → is_dv o ≡ true → is_cvca o ≡ false → last_dv (more now (Accepted n p) r) ≡ dv-of (Some q.rights)
         counts o d z v =
             dv-at o d
             ∙ rw (z, v, ap given (sym i.rights) ∙ a) (ap dv-of (found ps n f g s))
@@ -261,13 +258,13 @@ module _ {now : List TrustPoint} {ps : Points} {r : List Seen} where
     unfolding with_key
     completed-now k e f s = go c.chain.reach f i.dv
       where
-        under-dv : (trusted : Rights) → last_dv r ≡ some (record { trusted = some trusted; name = c.chain.dv.name; rights = c.chain.dv.rights })
-            → chain (more now (Accepted n p) r) ≡ some (record { trusted = trusted; dv = c.chain.dv.rights; terminal = p.rights })
+        under-dv : (trusted : Rights) → last_dv r ≡ Some (record { trusted = Some trusted; name = c.chain.dv.name; rights = c.chain.dv.rights })
+            → chain (more now (Accepted n p) r) ≡ Some (record { trusted = trusted; dv = c.chain.dv.rights; terminal = p.rights })
         under-dv trusted d =
-            ap (λ (x : Role). or_else (under (last_dv r) n p x) none) e ∙ ap (λ (x : Option Dv). or_else (under x n p Terminal) none) d
-            ∙ ap (λ (b : Bool). or_else (cond b (some (record { trusted = trusted; dv = c.chain.dv.rights; terminal = p.rights })) none) none) s
+            ap (λ (x : Role). or_else (under (last_dv r) n p x) None) e ∙ ap (λ (x : Option Dv). or_else (under x n p Terminal) None) d
+            ∙ ap (λ (b : Bool). or_else (cond b (Some (record { trusted = trusted; dv = c.chain.dv.rights; terminal = p.rights })) None) None) s
 
-        with-trusted : (trusted : Rights) → last_dv r ≡ some (record { trusted = some trusted; name = c.chain.dv.name; rights = c.chain.dv.rights })
+        with-trusted : (trusted : Rights) → last_dv r ≡ Some (record { trusted = Some trusted; name = c.chain.dv.name; rights = c.chain.dv.rights })
             → Inv (held_after now (Accepted n p)) ps (record { opened = c.opened; confirmed = c.confirmed; chain = record { reach = ToTerminal trusted; dv = c.chain.dv; terminal = with_key p k }; stage = Idle; key = no_key }) (more now (Accepted n p) r)
         with-trusted trusted d = accepted ps _ (sym (held_by Terminal e)) (dv-at Terminal e ∙ d) (sym (under-dv trusted d))
 
@@ -317,7 +314,7 @@ module _ {now : List TrustPoint} {ps : Points} {r : List Seen} where
 abbrev pub Agrees : List TrustPoint → Token → List Seen → Type 0
 Agrees now t r = Inv now t.points (context_of t) r
 
-pub keep : {now : List TrustPoint} (t : Token) {r : List Seen} {a : Asked} {z : List ℕ} {e : Event} {b : Brought} → InLimits t → Fits t a z e b → Agrees now t r
+pub keep : {now : List TrustPoint} (t : Token) {r : List Seen} {a : Option Given} {z : List ℕ} {e : Event} {b : Brought} → InLimits t → Fits t a z e b → Agrees now t r
     → Agrees (held_after now (fact_at a z e)) (after_of t e b) (more now (fact_at a z e) r)
 unfolding after_of reset_of choice_taken staged step_passed opened run_closed trial_lost issuer_selected link_taken dv_taken terminal_taken announced unblocked unblocked_by_puk
 keep t l is-refused i = quiet i
@@ -328,9 +325,9 @@ keep t l (is-opened {c = c} {s = s} q e f) i = open-now (context_of t) c s f (kn
 keep t l (is-run-closed {c = c} {s = s} q e) i = closed (context_of t) c (context_of t).opened s (known (context_of t) e i)
 keep t l (is-trial-lost {c = c} {s = s} q e) i = closed (context_of t) c (context_of t).opened s (known (context_of t) e i)
 keep t l (is-selected q e) i = quiet i
-keep t {a = a} l (is-link-taken n q c r k) i = linked-now (context_of t) a.brought.name a.brought.certificate i n r
-keep t {a = a} l (is-dv-taken n q c r k h e) i = deputed-now (context_of t) a.brought.name a.brought.certificate i n l.points (confirms t l (and_l (has_rights (context_of t).confirmed) (unproven (context_of t).stage) c)) r h e
-keep t {a = a} l (is-terminal-taken n q c r h e) i = completed-now (context_of t) a.brought.name a.brought.certificate i n r h e
+keep t {a = a} l (is-link-taken n q c r k) i = linked-now (context_of t) (brought_in a).name (brought_in a).certificate i n r
+keep t {a = a} l (is-dv-taken n q c r k h e) i = deputed-now (context_of t) (brought_in a).name (brought_in a).certificate i n l.points (confirms t l (and_l (has_rights (context_of t).confirmed) (unproven (context_of t).stage) c)) r h e
+keep t {a = a} l (is-terminal-taken n q c r h e) i = completed-now (context_of t) (brought_in a).name (brought_in a).certificate i n r h e
 keep t l (is-announced q e) i = announced-now (context_of t) _ i
 keep t l (is-challenged q e) i = challenged-now (context_of t) (challengeable (context_of t).stage e) (known (context_of t) refl i)
 keep t l (is-proven q e) i = proved-now (context_of t) (known (context_of t) (challenged-is (context_of t).stage e) i)

@@ -1,8 +1,8 @@
 -- The record decides: the claims, for every record. Assumes nothing.
+use Rattle.std.specs.Prelude.{Option, Some, None, Result, Ok, Err, is_ok}
 use Prim.Native.Nat.{ℕ, ◌+◌, ◌-◌, ◌≤◌}
 use mathlib.Core.Bool.{Bool, true, false, cond, not, ◌&&◌, ◌||◌}
 use mathlib.Core.Path.{◌≡◌, refl, sym, ap, subst, subst⁻¹, ◌∙◌}
-use mathlib.Core.Option.{Option, none, some}
 use mathlib.Core.List.{List, [], ◌∷◌}
 use native.Mathlib.Omega.{arith}
 use borrow.Author.Tests.{le-ltb, le-leb}
@@ -13,17 +13,13 @@ use Rattle.keys.specs.Keys.{key_stands}
 use Rattle.rights.specs.Rights.{has_right, reads_group}
 use Rattle.certificate.specs.declared.Certificate.{Certificate}
 use Rattle.rights.specs.declared.Rights.{Rights}
-use Rattle.rights.specs.declared.Granted.{Granted}
-use Rattle.rights.specs.declared.Granted.TheVariants.{These, NoRights}
 use Rattle.status.specs.declared.Word.{Word}
 use Rattle.status.specs.declared.Word.TheVariants.{Done, Outside as W6F00}
 use Rattle.command.specs.declared.kind.Kind.TheVariants.{Read as KindRead}
-use Rattle.command.specs.declared.Shape.{Shape}
-use Rattle.command.specs.declared.Shape.TheVariants.{Command}
+use Rattle.command.specs.Shape.{Shape}
 use Rattle.form.specs.Form.{form_of, after_header, after_four, extended_of}
 use Rattle.command.specs.Kind.{kind_of}
 use Rattle.command.specs.Shape.{shape_of, headed_of}
-use Rattle.command.specs.declared.kind.Lookup.TheVariants.{For}
 use Rattle.run.specs.declared.Password.{Password}
 use Rattle.run.specs.Run.{is_can}
 use Rattle.event.specs.declared.Event.{Event}
@@ -32,7 +28,6 @@ use Rattle.event.specs.declared.Refusal.{Refusal}
 use Rattle.event.specs.declared.Refusal.TheVariants.{Length, Lacking, Blocked, Unusable, Moment, Data, Parameters, NotFound, Instruction, Class, Outside}
 use Rattle.event.specs.declared.Loss.{Loss}
 use Rattle.event.specs.declared.Loss.TheVariants.{Unprotected, Broken}
-use Rattle.plans.specs.declared.Guard.TheVariants.{Passes, Drops}
 use Rattle.event.specs.Event.{word_of}
 use Rattle.plans.specs.declared.Note.TheVariants.{Protected}
 use Rattle.verdicts.specs.declared.Answered.{Answered}
@@ -44,8 +39,8 @@ use Rattle.fields.specs.Given.{only}
 use Rattle.fields.specs.Asked.{asked_of, asked_by, asking, data_of}
 use Rattle.fields.specs.declared.asked.Ask.TheVariants.{Read as AskRead}
 use Rattle.fields.specs.declared.asked.Asked.{Asked}
-use Rattle.fields.specs.declared.asked.Request.{Request}
-use Rattle.fields.specs.declared.asked.Request.TheVariants.{Asks}
+use Rattle.fields.specs.declared.given.Given.{Given}
+use Rattle.fields.specs.Given.{only}
 use Rattle.status.specs.Words.{word_number}
 use Rattle.reply.specs.declared.Layout.TheVariants.{Bare}
 use Rattle.reply.specs.Bytes.{word_bytes}
@@ -53,10 +48,7 @@ use Rattle.reply.specs.Reply.{room, data_of as reply_data, reply_of}
 use Rattle.answer.specs.Answer.{layout_of, reply_to}
 use Rattle.days.specs.declared.Day.{Day}
 use Rattle.trust.specs.declared.Points.{Points}
-use Rattle.status.specs.declared.Intake.TheVariants.{Accepted}
 use Rattle.token.specs.State.{made_of}
-use Rattle.standing.specs.declared.Opened.{Opened}
-use Rattle.standing.specs.declared.Opened.TheVariants.{Nobody, By}
 use Rattle.standing.specs.declared.Reach.{Reach}
 use Rattle.standing.specs.declared.Reach.TheVariants.{Empty, ToDv, ToTerminal}
 use Rattle.standing.specs.declared.Stage.{Stage}
@@ -71,12 +63,12 @@ use Rattle.token.specs.State.{context_of}
 use Rattle.token.specs.declared.state.Token.{Token}
 use Rattle.token.specs.Limits.{in_limits}
 use Rattle.checks.specs.Checks.{read_plan}
-use Rattle.token.specs.Plan.{command_of, timed_of, requested_of, guarded, plan_of}
+use Rattle.token.specs.Plan.{command_of, given_of, timed_of, requested_of, guarded, plan_of}
 use Rattle.token.specs.Step.{Exchange, Stepped, happened_of, next_of, ended_by, step_of}
-use Rattle.reached.proofs.Fits.{InLimits, in-limits, fits}
+use Rattle.reached.proofs.Fits.{InLimits, in-limits, given_in, fits}
 use Rattle.reached.proofs.Within.{InContext, context-of, reset-in, step_in_lem, made_in}
 use Rattle.record.specs.Entries.{Entry, Reset, Sent, after, reached, shown_at, shown}
-use Rattle.rule.specs.Facts.{Shown, Fact, TrustPoint, Seen, fact_by, fact_of, facts_of, request_fact, held_after, held, seen}
+use Rattle.rule.specs.Facts.{Shown, Fact, TrustPoint, Seen, fact_by, fact_of, facts_of, request_fact, given_fact, held_after, held, seen}
 use Rattle.rule.specs.Rule.{given, ChainRights, confirmed, chain, proven, authenticated, bits_agree, readable}
 use Rattle.record.specs.Claim.{begun, trust_points, ReadOf, short, extended, ReadsNow, record_says, Exactly, Claim, ClaimBytes, ClaimWithin}
 use Rattle.record.proofs.Words.{fact-of}
@@ -89,14 +81,18 @@ unfolding after
 within-one t Reset l = reset-in t l
 within-one t (Sent x) l = step_in_lem t x l
 
+request-given : (z : List ℕ) (r : Result Asked Refusal) → request_fact z r ≡ given_fact z (given_in r)
+request-given z (Err w) = refl
+request-given z (Ok a) = refl
+
 entry : {now : List TrustPoint} (t : Token) {r : List Seen} (x : Entry) → InLimits t → Agrees now t r
     → Agrees (held_after now (fact_of (shown_at t x))) (after t x) (more now (fact_of (shown_at t x)) r)
 unfolding after step_of
 entry t Reset l i = reset-keeps t i
 entry {now} t {r} (Sent x) l i = go (ltb x.size room)
   where
-    a : Asked
-    a = asked_of x.command
+    a : Option Given
+    a = given_in (asked_of x.command)
 
     h : Happened
     h = happened_of t x
@@ -105,13 +101,14 @@ entry {now} t {r} (Sent x) l i = go (ltb x.size room)
     ended b = cond b (record { token = t; word = W6F00; bytes = [] }) (ended_by t h x)
 
     f : Bool → Fact
-    f b = fact_by (ended b).word (request_fact a x.second a.request)
+    f b = fact_by (ended b).word (request_fact x.second (asked_of x.command))
 
     go : (b : Bool) → Agrees (held_after now (f b)) (ended b).token (more now (f b) r)
     go true = quiet i
     go false =
         let g = fits t x in
-        subst (λ (y : Fact). Agrees (held_after now y) (next_of t h) (more now y r)) (sym (fact-of t a x.second g)) (keep t l g i)
+        let e = ap (λ (y : Fact). fact_by (word_of h.event) y) (request-given x.second (asked_of x.command)) ∙ fact-of t a x.second g in
+        subst (λ (y : Fact). Agrees (held_after now y) (next_of t h) (more now y r)) (sym e) (keep t l g i)
 
 along-in : (t : Token) (entries : List Entry) → InLimits t → InLimits (reached t entries)
 along-in t [] l = l
@@ -128,33 +125,33 @@ along start t past (x ∷ rest) l i = along start (after t x) (shown_at t x ∷ 
 -- ---- a correct read is one
 
 module _ (n : ℕ) (lo : 1 ≤ n) (hi : n ≤ 21) where
-  read-kind : (p2 : ℕ) → kind_of 0xB0 (0x80 + n) p2 ≡ For (KindRead n)
+  read-kind : (p2 : ℕ) → kind_of 0xB0 (0x80 + n) p2 ≡ Ok (KindRead n)
   unfolding kind_of
   read-kind p2 =
       let e : 0x80 + n - 0x80 ≡ n = omega arith in
       rw (le-ltb (0x80 + n) 0x81 (omega arith), le-ltb 0x95 (0x80 + n) (omega arith), e)
 
-  read-shape : {s : List ℕ} → ReadOf n s → shape_of s ≡ Command (KindRead n) false 4 4
+  read-shape : {s : List ℕ} → ReadOf n s → shape_of s ≡ Ok (record { kind = KindRead n; chained = false; start = 4; end = 4 })
   unfolding shape_of form_of after_header after_four extended_of headed_of
   read-shape (short p2 le) = rw (read-kind p2)
   read-shape (extended p2 high low) = rw (read-kind p2)
 
-  read_asked : (s : List ℕ) → ReadOf n s → (asked_of s).request ≡ Asks (KindRead n) false (AskRead n)
+  read_asked : (s : List ℕ) → ReadOf n s → asked_of s ≡ asking (KindRead n) false (Some (only (AskRead n)))
   unfolding asked_of asking data_of only
-  read_asked s r = ap (λ (y : Shape). (asked_by s y).request) (read-shape r)
+  read_asked s r = ap (λ (y : Shape). asked_by s y) (read-shape r)
 
 -- ---- what happens at a protected read: by whether a session is open, no run is, and the right is there
 
 abbrev read_event : Bool → Bool → Bool → Event
 read_event held idle right = cond held (cond idle (grounded right ReadAllowed) (Refused Moment)) (Lost Broken)
 
-module _ (t : Token) (s : List ℕ) (n : ℕ) (l : in_limits t ≡ true) (q : (asked_of s).request ≡ Asks (KindRead n) false (AskRead n)) where
+module _ (t : Token) (s : List ℕ) (n : ℕ) (l : in_limits t ≡ true) (q : asked_of s ≡ asking (KindRead n) false (Some (only (AskRead n)))) where
   abbrev right : Bool
   right = reads_group (authorization (context_of t)) n
 
-  timed : requested_of t (asked_of s) (asked_of s).request ≡ settled_by (cond (no_run (context_of t).stage) (grounded right ReadAllowed) (Refused Moment))
-  unfolding requested_of timed_of command_of read_plan moment_of
-  timed = ap (λ (y : Request). requested_of t (asked_of s) y) q ∙ go (no_run (context_of t).stage)
+  timed : requested_of t (asked_of s) ≡ settled_by (cond (no_run (context_of t).stage) (grounded right ReadAllowed) (Refused Moment))
+  unfolding requested_of timed_of given_of command_of read_plan moment_of asking only
+  timed = ap (λ (y : Result Asked Refusal). requested_of t y) q ∙ go (no_run (context_of t).stage)
     where
       go : (b : Bool) → cond (not b) (settled_by (Refused Moment)) (settled_by (grounded right ReadAllowed)) ≡ settled_by (cond b (grounded right ReadAllowed) (Refused Moment))
       go true = refl
@@ -167,7 +164,7 @@ module _ (t : Token) (s : List ℕ) (n : ℕ) (l : in_limits t ≡ true) (q : (a
       e : Event
       e = cond (no_run (context_of t).stage) (grounded right ReadAllowed) (Refused Moment)
 
-      go : (b : Bool) → guarded (cond b Passes (Drops Broken)) (settled_by e) ≡ settled_by (cond b e (Lost Broken))
+      go : (b : Bool) → guarded (cond b (Ok tt) (Err Broken)) (settled_by e) ≡ settled_by (cond b e (Lost Broken))
       go true = refl
       go false = refl
 
@@ -244,17 +241,17 @@ whole c pin x a =
     record { opened = opener-open c.opened (or-then (has_rights c.confirmed) (opened_by_pin c.opened || opened_by_can c.opened) x.opener r); rights = r; terminal = and_r (has_rights c.confirmed) (has_terminal c.chain) m }
 
 -- a bit in all four
-abbrev all : Reach → Rights → Rights → Granted → ℕ → Bool
+abbrev all : Reach → Rights → Rights → Option Rights → ℕ → Bool
 all x d u g k = has_right k (trusted_of x) && has_right k d && has_right k u && has_right k (confirmed_of g)
 
-rule-bits : (n : ℕ) (a : Bool) (o : Opened) (g : Granted) (x : Reach) (d u : Certificate) → (a ≡ true → (is_open o ≡ true) × (has_rights g ≡ true) × (reaches_terminal x ≡ true))
+rule-bits : (n : ℕ) (a : Bool) (o : Option Password) (g : Option Rights) (x : Reach) (d u : Certificate) → (a ≡ true → (is_open o ≡ true) × (has_rights g ≡ true) × (reaches_terminal x ≡ true))
     → a && not (opened_by_can o && not (all x d.rights u.rights g 4)) && all x d.rights u.rights g (7 + n) ≡ a && bits_agree (confirmed_by o g) (chain_rights_of x d u) n
 rule-bits n false o g x d u w = refl
-rule-bits n true Nobody g x d u w = true-false (sym (w refl).0)
-rule-bits n true (By p) NoRights x d u w = true-false (sym (w refl).1)
-rule-bits n true (By p) (These r) Empty d u w = true-false (sym (w refl).2)
-rule-bits n true (By p) (These r) (ToDv trusted) d u w = true-false (sym (w refl).2)
-rule-bits n true (By p) (These r) (ToTerminal trusted) d u w = with_can (is_can p) (all (ToTerminal trusted) d.rights u.rights (These r) 4) (all (ToTerminal trusted) d.rights u.rights (These r) (7 + n))
+rule-bits n true None g x d u w = true-false (sym (w refl).0)
+rule-bits n true (Some p) None x d u w = true-false (sym (w refl).1)
+rule-bits n true (Some p) (Some r) Empty d u w = true-false (sym (w refl).2)
+rule-bits n true (Some p) (Some r) (ToDv trusted) d u w = true-false (sym (w refl).2)
+rule-bits n true (Some p) (Some r) (ToTerminal trusted) d u w = with_can (is_can p) (all (ToTerminal trusted) d.rights u.rights (Some r) 4) (all (ToTerminal trusted) d.rights u.rights (Some r) (7 + n))
 
 -- the token's test of group n, bit by bit
 abbrev by_token : Context → ℕ → Bool
@@ -273,13 +270,13 @@ passed s e f = auth-proven s ∙ rw (e, f)
 
 -- (a) to (d) hold where the bits agree, for an authenticated session
 five : (a : Option (Password × Rights)) (b : Option ChainRights) (c d : Bool) (n : ℕ) → d ≡ c && d → d && bits_agree a b n ≡ given a && given b && c && d && bits_agree a b n
-five none b c true n e = refl
-five none b c false n e = refl
-five (some a) none c true n e = refl
-five (some a) none c false n e = refl
-five (some a) (some b) true d n e = refl
-five (some a) (some b) false true n e = true-false e
-five (some a) (some b) false false n e = refl
+five None b c true n e = refl
+five None b c false n e = refl
+five (Some a) None c true n e = refl
+five (Some a) None c false n e = refl
+five (Some a) (Some b) true d n e = refl
+five (Some a) (Some b) false true n e = true-false e
+five (Some a) (Some b) false false n e = refl
 
 -- the token's right is the rule's
 agree : {now : List TrustPoint} (t : Token) (r : List Seen) (n : ℕ) → 1 ≤ n → n ≤ 21 → InLimits t → Agrees now t r → reads_group (authorization (context_of t)) n ≡ readable r n
@@ -301,7 +298,7 @@ grounds t n lo hi l e =
 
 -- ---- the record decides
 
-module _ (h : Points) (d : Day) (a : (made_of h d).made ≡ Accepted) (entries : List Entry) where
+module _ (h : Points) (d : Day) (a : is_ok (made_of h d) ≡ true) (entries : List Entry) where
   begun-in : InLimits (begun h d)
   begun-in = let m = made_in h d a in subst (λ (t : Token). InLimits t) (sym m.0) m.1
 

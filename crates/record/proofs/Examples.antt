@@ -31,7 +31,7 @@ use Rattle.token.specs.After.{choice_taken, staged, step_passed, opened, run_clo
 use Rattle.certify.specs.Certify.{select_plan, repeats, late, issued_ending, under_plan, verify_plan}
 use Rattle.checks.specs.Checks.{choose_plan, run_plan, chip_plan, general_plan, announce_plan, read_plan, change_plan, unblock_plan, active_plan}
 use Rattle.token.specs.Limits.{in_limits}
-use Rattle.token.specs.Plan.{command_of, timed_of, requested_of, guarded, plan_of}
+use Rattle.token.specs.Plan.{command_of, given_of, timed_of, requested_of, guarded, plan_of}
 use Rattle.token.specs.State.{reset_of, start_of, no_token, made_of}
 use Rattle.answer.specs.Answer.{layout_of, reply_to}
 use Rattle.token.specs.Step.{step_of}
@@ -47,5 +47,5 @@ use mathlib.Core.Path.{refl}
 use Rattle.record.specs.Worked.{AllWorked}
 
 pub all-worked : AllWorked
-unfolding unread is_public_key is_signature ext_then last_then first_then rights_then own_then key_then issuer_then version_then body_then body_of signed_of key_objects is_signed after_short after_long data_then extended_of after_four after_header form_of kind_of headed_of shape_of settled_by awaits_by word_of ends_by passes_by judged_of awaited_of ending_of key_then·Announce·fields auxiliary_then terminal_then protocol_then announce_of data_of refusing asking asked_of reference_in chip_of chosen_by rights_then·Choice·fields password_then protocol_then·Choice·fields choice_of only selecting verifying announcing held_in general_of select_of verified verify_of proof_of pin_of reading lastly fitted last_of holds counted taken second_tag_byte tag_of length_after_81 length_after_82 len_of header_of objects_of objects object objects_in found_in after readable tag_bytes length_bytes header object·headers brought_none over data_of·Reply·reply reply_of shared_by authorization trusted_fits dv_fits terminal_fits chain_fits ground_fits context_fits moment_of no_chain choice_taken staged step_passed opened run_closed trial_lost issuer_selected link_taken dv_taken terminal_taken announced unblocked unblocked_by_puk after_of select_plan repeats late issued_ending under_plan verify_plan choose_plan run_plan chip_plan general_plan announce_plan read_plan change_plan unblock_plan active_plan in_limits command_of timed_of requested_of guarded plan_of reset_of start_of no_token made_of layout_of reply_to step_of trust_point_fits one_point two_points points_fit knows found linked copied_into is_date day_fits is_day dated before later is_key key_of no_key key_is key_fits key_stands is_name name_of no_name name_fits same_name no_certificate certificate_fits expired with_key rights_fit role_of is_rights granted and_of common group_mask reads_group word_number
+unfolding unread is_public_key is_signature ext_then last_then first_then rights_then own_then key_then issuer_then version_then body_then body_of signed_of key_objects is_signed after_short after_long data_then extended_of after_four after_header form_of kind_of headed_of shape_of settled_by awaits_by word_of ends_by passes_by judged_of awaited_of ending_of key_then·Announce·fields auxiliary_then terminal_then protocol_then announce_of data_of refusing asking asked_of reference_in chip_of chosen_by rights_then·Choice·fields password_then protocol_then·Choice·fields choice_of only selecting verifying announcing held_in general_of select_of verified verify_of proof_of pin_of reading lastly fitted last_of holds counted taken second_tag_byte tag_of length_after_81 length_after_82 len_of header_of objects_of objects object objects_in found_in after readable tag_bytes length_bytes header object·headers brought_none over data_of·Reply·reply reply_of shared_by authorization trusted_fits dv_fits terminal_fits chain_fits ground_fits context_fits moment_of no_chain choice_taken staged step_passed opened run_closed trial_lost issuer_selected link_taken dv_taken terminal_taken announced unblocked unblocked_by_puk after_of select_plan repeats late issued_ending under_plan verify_plan choose_plan run_plan chip_plan general_plan announce_plan read_plan change_plan unblock_plan active_plan in_limits command_of given_of timed_of requested_of guarded plan_of reset_of start_of no_token made_of layout_of reply_to step_of trust_point_fits one_point two_points points_fit knows found linked copied_into is_date day_fits is_day dated before later is_key key_of no_key key_is key_fits key_stands is_name name_of no_name name_fits same_name no_certificate certificate_fits expired with_key rights_fit role_of is_rights granted and_of common group_mask reads_group word_number
 all-worked = ((refl, refl), (refl, refl), (refl, refl), (refl, refl), (refl, refl), (refl, refl), (refl, refl), (refl, refl))

@@ -1,4 +1,5 @@
 -- What the rule reads at the word of each event. Assumes nothing.
+use Rattle.std.specs.Prelude.{Option, Some, None}
 use Prim.Native.Nat.{ℕ, ◌-◌}
 use mathlib.Core.Bool.{Bool, true, false, cond, ◌&&◌}
 use mathlib.Core.Path.{◌≡◌, refl, sym, ap, ◌∙◌}
@@ -19,14 +20,15 @@ use Rattle.event.specs.declared.Loss.TheVariants.{Unprotected, Broken}
 use Rattle.event.specs.declared.Event.{Event}
 use Rattle.event.specs.declared.Event.TheVariants.{Refused, Lost as IsLost, Chosen, StepPassed as IsStep, Opened as IsOpened, RunClosed, TrialLost, Selected as IsSelected, LinkTaken, DvTaken, TerminalTaken, Announced as IsAnnounced, Challenged as IsChallenged, Proven as IsProven, ProofLost, ChipKeyChosen as IsChosen, Authenticated as IsAuthenticated, ChipLost, ReadAllowed, PinChanged, UnblockedByPuk, UnblockedByRight, Activated, Deactivated, NotPassed}
 use Rattle.event.specs.Event.{refusal_word, loss_word, word_of}
-use Rattle.fields.specs.declared.asked.Request.{Request}
-use Rattle.fields.specs.declared.asked.Asked.{Asked}
+use Rattle.fields.specs.declared.asked.Ask.{Ask}
+use Rattle.fields.specs.declared.given.Given.{Given}
 use Rattle.token.specs.declared.state.Token.{Token}
+use Rattle.fields.proofs.Facts.{ask_in, brought_in}
 use Rattle.reached.proofs.Fits.{verifying, challenging, changing, Fits, is-refused, is_lost_lem, is-chosen, is-stepped, is-opened, is-run-closed, is-trial-lost, is-selected, is-link-taken, is-dv-taken, is-terminal-taken, is-announced, is-challenged, is-proven, is-proof-lost, is-chip-key-chosen, is-authenticated, is-chip-lost, not-passed, is_read, is-changed, is-unblocked-puk, is-unblocked, is-activated, is-deactivated}
-use Rattle.rule.specs.Facts.{Fact, Taken, StepPassed, Accepted, Announced, Challenged, Proved, ProofFailed, ChipPassed, Lost, Nothing, request_fact, fact_by}
+use Rattle.rule.specs.Facts.{Fact, Taken, StepPassed, Accepted, Announced, Challenged, Proved, ProofFailed, ChipPassed, Lost, Nothing, ask_fact, given_fact, fact_by}
 
 -- the fact of an event, by what was asked and the second string
-abbrev pub fact_at : Asked → List ℕ → Event → Fact
+abbrev pub fact_at : Option Given → List ℕ → Event → Fact
 fact_at a z (Refused w) = Nothing
 fact_at a z (IsLost l) = Lost
 fact_at a z (Chosen c n) = Taken c
@@ -35,10 +37,10 @@ fact_at a z (IsOpened c) = StepPassed Confirm
 fact_at a z RunClosed = Nothing
 fact_at a z (TrialLost n) = Nothing
 fact_at a z (IsSelected i) = Nothing
-fact_at a z LinkTaken = Accepted a.brought.name a.brought.certificate
-fact_at a z (DvTaken r) = Accepted a.brought.name a.brought.certificate
-fact_at a z TerminalTaken = Accepted a.brought.name a.brought.certificate
-fact_at a z IsAnnounced = Announced a.brought.key
+fact_at a z LinkTaken = Accepted (brought_in a).name (brought_in a).certificate
+fact_at a z (DvTaken r) = Accepted (brought_in a).name (brought_in a).certificate
+fact_at a z TerminalTaken = Accepted (brought_in a).name (brought_in a).certificate
+fact_at a z IsAnnounced = Announced (brought_in a).key
 fact_at a z IsChallenged = Challenged
 fact_at a z IsProven = Proved
 fact_at a z ProofLost = ProofFailed
@@ -81,12 +83,16 @@ last-is Map e = true-false (sym e)
 last-is Agree e = true-false (sym e)
 last-is Confirm e = refl
 
-module _ (t : Token) (a : Asked) (z : List ℕ) where
-  -- the fact is that of the request as it was read
-  read : (w : Word) {q : Request} (f : Fact) → a.request ≡ q → fact_by w (request_fact a z q) ≡ f → fact_by w (request_fact a z a.request) ≡ f
-  read w f e y = ap (λ (x : Request). fact_by w (request_fact a z x)) e ∙ y
+given-fact : (z : List ℕ) (a : Option Given) {q : Ask} → ask_in a ≡ Some q → given_fact z a ≡ ask_fact (brought_in a) z q
+given-fact z None e = cc
+given-fact z (Some g) e = cc
 
-  pub fact-of : {e : Event} {b : Brought} → Fits t a z e b → fact_by (word_of e) (request_fact a z a.request) ≡ fact_at a z e
+module _ (t : Token) (a : Option Given) (z : List ℕ) where
+  -- the fact is that of the ask as it was read
+  read : (w : Word) {q : Ask} (f : Fact) → ask_in a ≡ Some q → fact_by w (ask_fact (brought_in a) z q) ≡ f → fact_by w (given_fact z a) ≡ f
+  read w f e y = ap (λ (x : Fact). fact_by w x) (given-fact z a e) ∙ y
+
+  pub fact-of : {e : Event} {b : Brought} → Fits t a z e b → fact_by (word_of e) (given_fact z a) ≡ fact_at a z e
   unfolding word_of
   fact-of (is-refused {w = w}) = refused-fact w _
   fact-of (is_lost_lem {l = l}) = lost-fact l _

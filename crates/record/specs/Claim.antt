@@ -1,5 +1,5 @@
 -- What is claimed of every record. Assumes nothing: these are definitions.
-use Rattle.std.specs.Prelude.{ℕ, ◌+◌, ◌≤◌, Bool, true, ◌≡◌, List, [], ◌∷◌, ◌++◌, take}
+use Rattle.std.specs.Prelude.{ℕ, ◌+◌, ◌≤◌, Bool, true, ◌≡◌, List, [], ◌∷◌, ◌++◌, take, is_ok}
 use Rattle.days.specs.declared.Day.{Day}
 use Rattle.status.specs.Words.{word_number}
 use Rattle.status.specs.declared.Word.{Word}
@@ -11,8 +11,7 @@ use Rattle.certificate.specs.declared.Certificate.{Certificate}
 use Rattle.trust.specs.Trust.{points_held}
 use Rattle.trust.specs.declared.Points.{Points}
 use Rattle.token.specs.declared.state.Token.{Token}
-use Rattle.status.specs.declared.Intake.TheVariants.{Accepted}
-use Rattle.token.specs.State.{made_of, reset_of}
+use Rattle.token.specs.State.{made_of, made_token, reset_of}
 use Rattle.token.specs.Limits.{in_limits}
 use Rattle.token.specs.Step.{Exchange, Steps, step_of}
 use Rattle.record.specs.Entries.{Entry, Reset, Sent, prescribed, reached, shown}
@@ -21,7 +20,7 @@ use Rattle.rule.specs.Rule.{readable}
 
 -- a token as it was personalised
 abbrev pub begun : Points → Day → Token
-begun h d = (made_of h d).token
+begun h d = made_token (made_of h d)
 
 -- the trust points of a personalisation, newest first
 abbrev pub as_trust_points : List Certificate → List TrustPoint
@@ -57,13 +56,13 @@ pub record Exactly (A B : Type 0) : Type 0 where
 -- be allowed exactly when the record alone, judged by document 01's rule (a) to (e), says so." Of the definition's word:
 abbrev pub Claim : Type 0
 Claim =
-    (h : Points) (d : Day) → (made_of h d).made ≡ Accepted → (entries : List Entry) (n : ℕ) (x : Exchange) → ReadsNow n x
+    (h : Points) (d : Day) → is_ok (made_of h d) ≡ true → (entries : List Entry) (n : ℕ) (x : Exchange) → ReadsNow n x
     → Exactly (record_says h d entries n ≡ true) (prescribed (reached (begun h d) entries) x ≡ Done)
 
 -- of the definition's reply: 90 00 and nothing else
 abbrev pub ClaimBytes : Type 0
 ClaimBytes =
-    (h : Points) (d : Day) → (made_of h d).made ≡ Accepted → (entries : List Entry) (n : ℕ) (x : Exchange) → ReadsNow n x
+    (h : Points) (d : Day) → is_ok (made_of h d) ≡ true → (entries : List Entry) (n : ℕ) (x : Exchange) → ReadsNow n x
     → Exactly (record_says h d entries n ≡ true) ((step_of (reached (begun h d) entries) x).bytes ≡ 0x90 ∷ 0x00 ∷ [])
 
 -- a token that went through the entries, each by what the contracts of `Token::reset` and `Token::step` say
@@ -76,12 +75,12 @@ pub data Ran : Token → List Entry → Token → Type 0 where
 -- in whatever buffer
 abbrev pub ClaimRan : Type 0
 ClaimRan =
-    (h : Points) (d : Day) → (made_of h d).made ≡ Accepted → (entries : List Entry) (z : Token) → Ran (begun h d) entries z → (n : ℕ) (x : Exchange) → ReadsNow n x
+    (h : Points) (d : Day) → is_ok (made_of h d) ≡ true → (entries : List Entry) (z : Token) → Ran (begun h d) entries z → (n : ℕ) (x : Exchange) → ReadsNow n x
     → (before after : List ℕ) (u : Token) (len : ℕ) → Steps z x before after u len → Exactly (record_says h d entries n ≡ true) (take len after ≡ 0x90 ∷ 0x00 ∷ [])
 
 -- no state that the product itself made is outside its limits
 abbrev pub ClaimWithin : Type 0
-ClaimWithin = (h : Points) (d : Day) → (made_of h d).made ≡ Accepted → (entries : List Entry) → in_limits (reached (begun h d) entries) ≡ true
+ClaimWithin = (h : Points) (d : Day) → is_ok (made_of h d) ≡ true → (entries : List Entry) → in_limits (reached (begun h d) entries) ≡ true
 
 -- the prescribed word is what the reply's last two bytes spell; 6F00 has none
 pub data Spells (w : Word) : List ℕ → Type 0 where

@@ -1,3 +1,3 @@
-pub mod Pieces
-pub mod Answers
+pub mod Nest
+pub mod Data
 pub mod Examples

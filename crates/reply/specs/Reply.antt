@@ -1,7 +1,8 @@
 -- The bytes of a reply. Assumes nothing: these are definitions.
-use Rattle.std.specs.Prelude.{ℕ, Bool, true, false, cond, List, [], ◌++◌, ltb, length, take, drop}
+use Rattle.std.specs.Prelude.{ℕ, Bool, true, false, cond, List, [], ◌++◌, ltb, length, take, drop, Option, Some, None}
 use Rattle.strings.specs.Bytes.{longest}
 use Rattle.names.specs.Names.{name_bytes}
+use Rattle.names.specs.declared.Name.{Name}
 use Rattle.names.specs.declared.Listed.{Listed}
 use Rattle.headers.specs.Encode.{object}
 use Rattle.reply.specs.Bytes.{word_bytes}
@@ -20,8 +21,12 @@ abbrev pub nonce : ℕ
 nonce = 8
 
 -- "87 newest trust point name, 88 the previous if held": which of them there are, `trust` says
+abbrev pub second_name : Option Name → List ℕ
+second_name None = []
+second_name (Some n) = object 0x88 (name_bytes n)
+
 abbrev pub listed_names : Listed → List ℕ
-listed_names listed = object 0x87 (name_bytes listed.first) ++ cond listed.both (object 0x88 (name_bytes listed.second)) []
+listed_names listed = object 0x87 (name_bytes listed.first) ++ second_name listed.second
 
 -- the chip key's "81, 82": the nonce, then the token
 abbrev pub nonce_token : List ℕ → List ℕ

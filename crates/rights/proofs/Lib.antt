@@ -1,3 +1,2 @@
-pub mod Contents
 pub mod Bits
 pub mod Kept

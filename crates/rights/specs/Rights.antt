@@ -1,13 +1,11 @@
 -- Rights: "06 with 04 00 7F 00 07 03 01 02 02, then 53 with five bytes, highest first. Top two bits: 11 CVCA, 10 domestic
 -- official DV, 01 other DV, 00 terminal. Bit 7+n reads group n, 1..21; 5 PIN management; 4 CAN allowed."
 -- Assumes nothing: these are definitions.
-use Rattle.std.specs.Prelude.{ℕ, zero, suc, ◌+◌, ◌-◌, ◌*◌, ◌/◌, ◌%◌, ◌^◌, min, List, [], ◌∷◌, Bool, cond, ◌&&◌, length, take, drop, eqb, ltb}
+use Rattle.std.specs.Prelude.{ℕ, zero, suc, ◌+◌, ◌-◌, ◌*◌, ◌/◌, ◌%◌, ◌^◌, min, List, [], ◌∷◌, Bool, cond, ◌&&◌, length, take, drop, eqb, ltb, Option, Some, None}
 use Rattle.strings.specs.Bytes.{eqbs, among, number}
 use Rattle.rights.specs.declared.Rights.{Rights}
 use Rattle.roles.specs.declared.Role.{Role}
 use Rattle.roles.specs.declared.Role.TheVariants.{Cvca, OfficialDv, OtherDv, Terminal}
-use Rattle.rights.specs.declared.Granted.{Granted}
-use Rattle.rights.specs.declared.Granted.TheVariants.{These, NoRights}
 
 -- the width of a rights value: its top two bits are the role, the others rights
 abbrev pub width : ℕ
@@ -39,8 +37,8 @@ is_rights c = eqb (length c) (length template + 5) && eqbs (take (length templat
 abbrev pub rights_of : List ℕ → ℕ
 rights_of c = number 256 0 (drop (length template) c) % 2 ^ width
 
-unfoldable pub granted : List ℕ → Granted
-granted c = cond (is_rights c) (These (record { 0 = rights_of c })) NoRights
+unfoldable pub granted : List ℕ → Option Rights
+granted c = cond (is_rights c) (Some (record { 0 = rights_of c })) None
 
 -- ---- bits
 

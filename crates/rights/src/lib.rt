@@ -1,21 +1,14 @@
 // Rights of 40 bits: the role in the top two, a right in each of the others.
 #![tactic(auto)]
 
-ghost use Rattle.std.specs.Prelude.{◌≡◌, ◌+◌, ◌*◌, ◌≤◌, length};
-ghost use Rattle.strings.specs.Bytes.{number};
+ghost use Rattle.std.specs.Prelude.{◌≡◌};
 ghost use Rattle.rights.specs.Rights.{rights_fit, role_of, granted, common, has_right, group_mask, reads_group, pin_management, can_allowed};
 
 use roles::Role;
-use strings::same;
+use strings::number;
 
-#[derive(Clone, Copy)]
+#[derive(Clone, Copy, PartialEq, Eq)]
 pub struct Rights(pub u64);
-
-#[derive(Clone, Copy)]
-pub enum Granted {
-    These(Rights),
-    NoRights,
-}
 
 // 06 with the identifier of authentication terminals, then the header of 53 with five bytes.
 const TEMPLATE: [u8; 13] = [6, 9, 4, 0, 0x7F, 0, 7, 3, 1, 2, 2, 0x53, 5];
@@ -26,33 +19,15 @@ const MASKS: [u64; 21] = [
     0x100000, 0x200000, 0x400000, 0x800000, 0x1000000, 0x2000000, 0x4000000, 0x8000000, 0x10000000,
 ];
 
-// One byte more; the bound lets it fit in 64 bits.
-fn byte(n: u64, b: u8) -> u64
-    requires { n ≤ 0xFFFFFFFFFFFF }
-    ensures { result ≡ n * 256 + b }
-{
-    n * 256 + (b as u64)
-}
-
-fn five(s: &[u8]) -> u64
-    requires { length s.now ≡ 5 }
-    ensures { result ≡ number 256 0 s.now }
-{
-    let top = byte(byte(0, s[0]), s[1]);
-    byte(byte(byte(top, s[2]), s[3]), s[4])
-}
-
 // The rights that the content of a 7F4C states.
-pub fn rights_of(s: &[u8]) -> Granted
+#[tactic(auto, using(laws::proofs::Lists::from), unfolding(crate::specs::Rights::granted, crate::specs::Rights::is_rights))]
+pub fn rights_of(s: &[u8]) -> Option<Rights>
     ensures { result ≡ granted s.now }
 {
-    if s.len() != 18 {
-        return Granted::NoRights;
-    }
-    if same(&s[0..13], &TEMPLATE) {
-        Granted::These(Rights(five(&s[13..]) % Rights::OVER))
+    if s.len() == 18 && s[..13] == TEMPLATE[..] {
+        Some(Rights(number(256, 0, &s[13..]) % Rights::OVER))
     } else {
-        Granted::NoRights
+        None
     }
 }
 
@@ -61,10 +36,7 @@ fn mask(n: u8) -> u64
     ensures { result ≡ group_mask n }
 {
     let i = n as usize;
-    if i < 1 {
-        return 0;
-    }
-    if 21 < i {
+    if i < 1 || MASKS.len() < i {
         return 0;
     }
     MASKS[i - 1]
@@ -76,26 +48,23 @@ impl Rights {
 
     const ROLE: u64 = 0x40_0000_0000;
 
+    #[tactic(auto, unfolding(crate::specs::Rights::rights_fit))]
     pub fn fits(self) -> bool
         ensures { result ≡ rights_fit self }
     {
         self.0 < Rights::OVER
     }
 
+    #[tactic(auto, unfolding(crate::specs::Rights::role_of))]
     pub fn role(self) -> Role
         ensures { result ≡ role_of self }
     {
-        let top = self.0 / Rights::ROLE % 4;
-        if top == 3 {
-            return Role::Cvca;
+        match self.0 / Rights::ROLE % 4 {
+            3 => Role::Cvca,
+            2 => Role::OfficialDv,
+            1 => Role::OtherDv,
+            _ => Role::Terminal,
         }
-        if top == 2 {
-            return Role::OfficialDv;
-        }
-        if top == 1 {
-            return Role::OtherDv;
-        }
-        Role::Terminal
     }
 
     // The rights that four values share, their roles apart.
@@ -109,23 +78,20 @@ impl Rights {
     pub fn allows_can(self) -> bool
         ensures { result ≡ has_right can_allowed self }
     {
-        let x = self.0 & 0x10;
-        x != 0
+        self.0 & 0x10 != 0
     }
 
     // Bit 5, PIN management.
     pub fn manages_pin(self) -> bool
         ensures { result ≡ has_right pin_management self }
     {
-        let x = self.0 & 0x20;
-        x != 0
+        self.0 & 0x20 != 0
     }
 
     // Bit 7+n, the right to read group n.
     pub fn reads(self, n: u8) -> bool
         ensures { result ≡ reads_group self n }
     {
-        let x = self.0 & mask(n);
-        x != 0
+        self.0 & mask(n) != 0
     }
 }

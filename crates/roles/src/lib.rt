@@ -4,58 +4,44 @@
 ghost use Rattle.std.specs.Prelude.{◌≡◌};
 ghost use Rattle.roles.specs.Roles.{role_number, is_cvca, is_official, is_terminal, is_dv};
 
-#[derive(Clone, Copy)]
+// Each with its number, as the top two bits of rights have it.
+#[derive(Clone, Copy, PartialEq, Eq)]
 pub enum Role {
-    Cvca,
-    OfficialDv,
-    OtherDv,
-    Terminal,
+    Cvca = 3,
+    OfficialDv = 2,
+    OtherDv = 1,
+    Terminal = 0,
 }
 
 impl Role {
-    // The numbers of the roles, as the top two bits of rights have them.
-    pub const CVCA: u8 = 3;
-
-    pub const OFFICIAL: u8 = 2;
-
-    pub const OTHER: u8 = 1;
-
-    pub const TERMINAL: u8 = 0;
-
     pub fn number(self) -> u8
         ensures { result ≡ role_number self }
     {
-        match self {
-            Role::Cvca => Role::CVCA,
-            Role::OfficialDv => Role::OFFICIAL,
-            Role::OtherDv => Role::OTHER,
-            Role::Terminal => Role::TERMINAL,
-        }
+        self as u8
     }
 
     pub fn is_cvca(self) -> bool
         ensures { result ≡ is_cvca self }
     {
-        self.number() == Role::CVCA
+        self == Role::Cvca
     }
 
     pub fn is_official(self) -> bool
         ensures { result ≡ is_official self }
     {
-        self.number() == Role::OFFICIAL
+        self == Role::OfficialDv
     }
 
     pub fn is_terminal(self) -> bool
         ensures { result ≡ is_terminal self }
     {
-        self.number() == Role::TERMINAL
+        self == Role::Terminal
     }
 
     // Either DV.
     pub fn is_dv(self) -> bool
         ensures { result ≡ is_dv self }
     {
-        let n = self.number();
-        (n == Role::OFFICIAL) | (n == Role::OTHER)
+        matches!(self, Role::OfficialDv | Role::OtherDv)
     }
 }

@@ -1,7 +1,6 @@
 -- What the rule is shown of an entry of the record, and what it takes from it: a fact, with the trust points held when it happened.
 -- Assumes nothing: these are definitions.
-use Rattle.std.specs.Prelude.{ℕ, Bool, true, false, cond, List, [], ◌∷◌}
-use Rattle.std.proofs.Math.Option.{Option, none, some}
+use Rattle.std.specs.Prelude.{ℕ, Bool, true, false, cond, List, [], ◌∷◌, Option, Some, None, Result, Ok, Err}
 use Rattle.names.specs.Names.{same_name}
 use Rattle.names.specs.declared.Name.{Name}
 use Rattle.keys.specs.Keys.{key_is}
@@ -18,10 +17,11 @@ use Rattle.run.specs.declared.Step.{Step}
 use Rattle.fields.specs.declared.asked.Content.{Content}
 use Rattle.fields.specs.declared.asked.Content.TheVariants.{Step as StepData, Chip}
 use Rattle.fields.specs.declared.asked.Ask.{Ask}
-use Rattle.fields.specs.declared.asked.Ask.TheVariants.{Bad, Choose, General, Select, Verify, Announce, Challenge, Prove, ChooseChipKey, Read, ChangePin, Unblock, Activate, Deactivate}
-use Rattle.fields.specs.declared.asked.Request.{Request}
-use Rattle.fields.specs.declared.asked.Request.TheVariants.{Refused as Faulty, Asks}
+use Rattle.fields.specs.declared.asked.Ask.TheVariants.{Choose, General, Select, Verify, Announce, Challenge, Prove, ChooseChipKey, Read, ChangePin, Unblock, Activate, Deactivate}
+use Rattle.fields.specs.declared.given.Given.{Given}
 use Rattle.fields.specs.declared.asked.Asked.{Asked}
+use Rattle.brought.specs.declared.Brought.{Brought}
+use Rattle.event.specs.declared.Refusal.{Refusal}
 use Rattle.fields.specs.Asked.{asked_of}
 
 -- what the rule is shown of an entry: a reset; or a command's bytes, the second string of its crypto result, and the prescribed word
@@ -51,25 +51,29 @@ content_fact second (StepData s) = StepPassed s
 content_fact second Chip = ChipPassed second
 
 -- what a command did where 9000 is prescribed
-abbrev pub ask_fact : Asked → List ℕ → Ask → Fact
-ask_fact a second Bad = Nothing
-ask_fact a second (Choose c) = Taken c
-ask_fact a second (General x) = content_fact second x
-ask_fact a second Select = Nothing
-ask_fact a second Verify = Accepted a.brought.name a.brought.certificate
-ask_fact a second Announce = Announced a.brought.key
-ask_fact a second Challenge = Challenged
-ask_fact a second Prove = Proved
-ask_fact a second ChooseChipKey = Nothing
-ask_fact a second (Read n) = Nothing
-ask_fact a second ChangePin = Nothing
-ask_fact a second Unblock = Nothing
-ask_fact a second Activate = Nothing
-ask_fact a second Deactivate = Nothing
+abbrev pub ask_fact : Brought → List ℕ → Ask → Fact
+ask_fact b second (Choose c) = Taken c
+ask_fact b second (General x) = content_fact second x
+ask_fact b second Select = Nothing
+ask_fact b second Verify = Accepted b.name b.certificate
+ask_fact b second Announce = Announced b.key
+ask_fact b second Challenge = Challenged
+ask_fact b second Prove = Proved
+ask_fact b second ChooseChipKey = Nothing
+ask_fact b second (Read n) = Nothing
+ask_fact b second ChangePin = Nothing
+ask_fact b second Unblock = Nothing
+ask_fact b second Activate = Nothing
+ask_fact b second Deactivate = Nothing
 
-abbrev pub request_fact : Asked → List ℕ → Request → Fact
-request_fact a second (Faulty w) = Nothing
-request_fact a second (Asks k chained ask) = ask_fact a second ask
+-- data that are not what the command wants do nothing
+abbrev pub given_fact : List ℕ → Option Given → Fact
+given_fact second None = Nothing
+given_fact second (Some g) = ask_fact g.brought second g.ask
+
+abbrev pub request_fact : List ℕ → Result Asked Refusal → Fact
+request_fact second (Err w) = Nothing
+request_fact second (Ok a) = given_fact second a.given
 
 -- of these facts a choice alone is left; a proof alone, and it failed
 abbrev pub choice_alone : Fact → Fact
@@ -118,7 +122,7 @@ fact_by Outside f = Nothing
 
 abbrev pub fact_of : Shown → Fact
 fact_of AtReset = Lost
-fact_of (Prescribed s second w) = fact_by w (request_fact (asked_of s) second (asked_of s).request)
+fact_of (Prescribed s second w) = fact_by w (request_fact second (asked_of s))
 
 abbrev pub facts_of : List Shown → List Fact
 facts_of [] = []
@@ -127,16 +131,16 @@ facts_of (x ∷ past) = fact_of x ∷ facts_of past
 -- ---- the tests of a fact
 
 abbrev pub choice_in : Fact → Option Choice
-choice_in (Taken c) = some c
-choice_in (StepPassed s) = none
-choice_in (Accepted n p) = none
-choice_in (Announced k) = none
-choice_in Challenged = none
-choice_in Proved = none
-choice_in ProofFailed = none
-choice_in (ChipPassed z) = none
-choice_in Lost = none
-choice_in Nothing = none
+choice_in (Taken c) = Some c
+choice_in (StepPassed s) = None
+choice_in (Accepted n p) = None
+choice_in (Announced k) = None
+choice_in Challenged = None
+choice_in Proved = None
+choice_in ProofFailed = None
+choice_in (ChipPassed z) = None
+choice_in Lost = None
+choice_in Nothing = None
 
 -- the step that it passed
 abbrev pub step_in : Fact → List Step
@@ -165,16 +169,16 @@ certified x by Lost = x
 certified x by Nothing = x
 
 abbrev pub key_in : Fact → Option Key
-key_in (Taken c) = none
-key_in (StepPassed s) = none
-key_in (Accepted n p) = none
-key_in (Announced k) = some k
-key_in Challenged = none
-key_in Proved = none
-key_in ProofFailed = none
-key_in (ChipPassed z) = none
-key_in Lost = none
-key_in Nothing = none
+key_in (Taken c) = None
+key_in (StepPassed s) = None
+key_in (Accepted n p) = None
+key_in (Announced k) = Some k
+key_in Challenged = None
+key_in Proved = None
+key_in ProofFailed = None
+key_in (ChipPassed z) = None
+key_in Lost = None
+key_in Nothing = None
 
 abbrev pub is_challenged : Fact → Bool
 is_challenged (Taken c) = false
@@ -202,8 +206,8 @@ is_proved Nothing = false
 
 -- "compared whole with 91"
 abbrev pub is_key : Option Key → List ℕ → Bool
-is_key none z = false
-is_key (some k) z = key_is k z
+is_key None z = false
+is_key (Some k) z = key_is k z
 
 -- a chip key passed with this key
 abbrev pub chip_with : Option Key → Fact → Bool
@@ -257,8 +261,8 @@ held start (f ∷ past) = held_after (held start past) f
 
 -- the rights of the trust point of that name
 abbrev pub rights_of : List TrustPoint → Name → Option Rights
-rights_of [] n = none
-rights_of (p ∷ older) n = cond (same_name n p.name) (some p.rights) (rights_of older n)
+rights_of [] n = None
+rights_of (p ∷ older) n = cond (same_name n p.name) (Some p.rights) (rights_of older n)
 
 -- a fact, and the trust points held when it happened
 pub record Seen : Type 0 where

@@ -1,7 +1,6 @@
 -- "The rule that reads the record", (a) to (e), over a line of facts, newest first. It keeps no state, and nothing of a token stands
 -- in it. Assumes nothing: these are definitions.
-use Rattle.std.specs.Prelude.{ℕ, ◌+◌, Bool, true, false, cond, not, ◌&&◌, ◌||◌, List, [], ◌∷◌, ◌++◌}
-use Rattle.std.proofs.Math.Option.{Option, none, some}
+use Rattle.std.specs.Prelude.{ℕ, ◌+◌, Bool, true, false, cond, not, ◌&&◌, ◌||◌, List, [], ◌∷◌, ◌++◌, Option, Some, None}
 use Rattle.names.specs.Names.{same_name}
 use Rattle.names.specs.declared.Name.{Name}
 use Rattle.keys.specs.declared.Key.{Key}
@@ -9,8 +8,6 @@ use Rattle.roles.specs.Roles.{is_cvca, is_dv, is_terminal}
 use Rattle.roles.specs.declared.Role.{Role}
 use Rattle.rights.specs.Rights.{has_right, can_allowed}
 use Rattle.rights.specs.declared.Rights.{Rights}
-use Rattle.rights.specs.declared.Granted.{Granted}
-use Rattle.rights.specs.declared.Granted.TheVariants.{These, NoRights}
 use Rattle.certificate.specs.declared.Certificate.{Certificate}
 use Rattle.run.specs.declared.Password.{Password}
 use Rattle.run.specs.declared.Choice.{Choice}
@@ -22,17 +19,17 @@ use Rattle.rule.specs.Facts.{Fact, Taken, StepPassed, Accepted, Announced, Chall
 -- ---- "the last ..", "since .."
 
 abbrev pub given : {A : Type 0} → Option A → Bool
-given none = false
-given (some x) = true
+given None = false
+given (Some x) = true
 
 abbrev pub or_else : {A : Type 0} → Option A → Option A → Option A
-or_else none y = y
-or_else (some x) y = some x
+or_else None y = y
+or_else (Some x) y = Some x
 
 -- the newest fact that counts, judged with what came before it, and no fact after it that undoes it
 abbrev pub latest : {A : Type 0} → (Seen → List Seen → Option A) → (Fact → Bool) → List Seen → Option A
-latest counts undoes [] = none
-latest counts undoes (x ∷ past) = or_else (counts x past) (cond (undoes x.fact) none (latest counts undoes past))
+latest counts undoes [] = None
+latest counts undoes (x ∷ past) = or_else (counts x past) (cond (undoes x.fact) None (latest counts undoes past))
 
 -- there is a fact that counts, and no fact after it that undoes it
 abbrev pub standing : (Seen → List Seen → Bool) → (Fact → Bool) → List Seen → Bool
@@ -99,16 +96,16 @@ abbrev pub four_steps : List Step → Bool
 four_steps passed = each_is (is_confirm ∷ is_agree ∷ is_map ∷ is_nonce ∷ []) passed
 
 -- only the PIN and the CAN can name rights
-abbrev pub naming : Password → Granted → Option (Password × Rights)
-naming w NoRights = none
-naming w (These r) = some (w, r)
+abbrev pub naming : Password → Option Rights → Option (Password × Rights)
+naming w None = None
+naming w (Some r) = Some (w, r)
 
 abbrev pub named : Option Choice → Option (Password × Rights)
-named none = none
-named (some c) = naming (password_of c) (rights_named c)
+named None = None
+named (Some c) = naming (password_of c) (rights_named c)
 
 abbrev pub confirmed : List Seen → Option (Password × Rights)
-confirmed r = cond (four_steps (steps r)) (named (last_choice r)) none
+confirmed r = cond (four_steps (steps r)) (named (last_choice r)) None
 
 -- ---- (b) "after it a DV, the latest, was accepted under a trust point, then a terminal under that DV, no certificate accepted
 -- later"
@@ -126,10 +123,10 @@ pub record ChainRights : Type 0 where
 
 -- a DV counts after (a) alone: the parts are completed in their order
 abbrev pub dv_by : Bool → List TrustPoint → Name → Certificate → Role → Option Dv
-dv_by after_a points n p role = cond (is_dv role && after_a) (some (record { trusted = rights_of points n; name = p.name; rights = p.rights })) none
+dv_by after_a points n p role = cond (is_dv role && after_a) (Some (record { trusted = rights_of points n; name = p.name; rights = p.rights })) None
 
 abbrev pub dv_in : Bool → Seen → Option Dv
-dv_in after_a x = certified none (dv_by after_a x.points) x.fact
+dv_in after_a x = certified None (dv_by after_a x.points) x.fact
 
 -- a link accepted after it ends it: "chain empty"
 abbrev pub ends_dv : Fact → Bool
@@ -139,16 +136,16 @@ abbrev pub last_dv : List Seen → Option Dv
 last_dv r = latest (λ x past. dv_in (given (confirmed past)) x) ends_dv r
 
 abbrev pub chain_rights : (trusted : Option Rights) (dv terminal : Rights) → Option ChainRights
-chain_rights none d t = none
-chain_rights (some x) d t = some (record { trusted = x; dv = d; terminal = t })
+chain_rights None d t = None
+chain_rights (Some x) d t = Some (record { trusted = x; dv = d; terminal = t })
 
 -- a terminal's certificate, where its issuer's name is the DV's
 abbrev pub completing : Option Dv → Name → Certificate → Option ChainRights
-completing none n p = none
-completing (some d) n p = cond (same_name n d.name) (chain_rights d.trusted d.rights p.rights) none
+completing None n p = None
+completing (Some d) n p = cond (same_name n d.name) (chain_rights d.trusted d.rights p.rights) None
 
 abbrev pub under : Option Dv → Name → Certificate → Role → Option ChainRights
-under d n p role = cond (is_terminal role) (completing d n p) none
+under d n p role = cond (is_terminal role) (completing d n p) None
 
 -- "no certificate accepted later": what ends a chain's terminal and an announcement
 abbrev pub ends_chain : Fact → Bool
@@ -164,7 +161,7 @@ ends_chain Lost = true
 ends_chain Nothing = false
 
 abbrev pub chain : List Seen → Option ChainRights
-chain r = latest (λ x past. certified none (under (last_dv past)) x.fact) ends_chain r
+chain r = latest (λ x past. certified None (under (last_dv past)) x.fact) ends_chain r
 
 -- ---- (c) "then an announcement, a later challenge, and a passed proof, with no announcement or failed proof after that challenge"
 
@@ -204,9 +201,9 @@ abbrev pub agrees : Password → Rights → ChainRights → ℕ → Bool
 agrees w x t i = (not (is_can w) || in_all t x can_allowed) && in_all t x i
 
 abbrev pub bits_agree : Option (Password × Rights) → Option ChainRights → ℕ → Bool
-bits_agree none t n = false
-bits_agree (some c) none n = false
-bits_agree (some c) (some t) n = agrees c.0 c.1 t (7 + n)
+bits_agree None t n = false
+bits_agree (Some c) None n = false
+bits_agree (Some c) (Some t) n = agrees c.0 c.1 t (7 + n)
 
 -- ---- "Group n is readable when": a line for each of (a) to (e), as the paper has them, though the later ones imply the earlier
 

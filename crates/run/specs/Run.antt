@@ -1,13 +1,12 @@
 -- A password run: its choice and its steps. Assumes nothing: these are definitions.
-use Rattle.std.specs.Prelude.{ℕ, Bool, eqb}
-use Rattle.rights.specs.declared.Granted.{Granted}
-use Rattle.rights.specs.declared.Granted.TheVariants.{These, NoRights}
+use Rattle.std.specs.Prelude.{ℕ, Bool, eqb, Option, Some, None}
 use Rattle.run.specs.declared.Password.{Password}
 use Rattle.run.specs.declared.Password.TheVariants.{Mrz, Can, Pin, Puk}
 use Rattle.run.specs.declared.Choice.{Choice}
 use Rattle.run.specs.declared.Choice.TheVariants.{Mrz as ChooseMrz, Can as ChooseCan, CanFor, Pin as ChoosePin, PinFor, Puk as ChoosePuk}
 use Rattle.run.specs.declared.Step.{Step}
 use Rattle.run.specs.declared.Step.TheVariants.{Nonce, Map, Agree, Confirm}
+use Rattle.rights.specs.declared.Rights.{Rights}
 
 -- "83 with 01 MRZ, 02 CAN, 03 PIN or 04 PUK"
 abbrev pub password_number : Password → ℕ
@@ -34,13 +33,13 @@ password_of ChoosePin = Pin
 password_of (PinFor r) = Pin
 password_of ChoosePuk = Puk
 
-abbrev pub rights_named : Choice → Granted
-rights_named ChooseMrz = NoRights
-rights_named ChooseCan = NoRights
-rights_named (CanFor r) = These r
-rights_named ChoosePin = NoRights
-rights_named (PinFor r) = These r
-rights_named ChoosePuk = NoRights
+abbrev pub rights_named : Choice → Option Rights
+rights_named ChooseMrz = None
+rights_named ChooseCan = None
+rights_named (CanFor r) = Some r
+rights_named ChoosePin = None
+rights_named (PinFor r) = Some r
+rights_named ChoosePuk = None
 
 abbrev pub step_number : Step → ℕ
 step_number Nonce = 1

@@ -4,21 +4,22 @@
 ghost use Rattle.std.specs.Prelude.{◌≡◌};
 ghost use Rattle.run.specs.Run.{password_number, is_pin, is_can, is_puk, password_of, rights_named, step_number, is_last, next_step};
 
-use rights::{Granted, Rights};
+use rights::Rights;
 
 // The tries of the PIN at the start, and the most there are.
 pub const TRIES: u8 = 3;
 
-#[derive(Clone, Copy)]
+// By its number in object 83.
+#[derive(Clone, Copy, PartialEq, Eq)]
 pub enum Password {
-    Mrz,
-    Can,
-    Pin,
-    Puk,
+    Mrz = 1,
+    Can = 2,
+    Pin = 3,
+    Puk = 4,
 }
 
 // A password, and the rights that it names: only the CAN and the PIN may name any.
-#[derive(Clone, Copy)]
+#[derive(Clone, Copy, PartialEq, Eq)]
 pub enum Choice {
     Mrz,
     Can,
@@ -29,51 +30,37 @@ pub enum Choice {
 }
 
 // The four steps, by TR-03110's names: encrypted nonce, mapping, key agreement, confirmation.
-#[derive(Clone, Copy)]
+#[derive(Clone, Copy, PartialEq, Eq)]
 pub enum Step {
-    Nonce,
-    Map,
-    Agree,
-    Confirm,
+    Nonce = 1,
+    Map = 2,
+    Agree = 3,
+    Confirm = 4,
 }
 
 impl Password {
-    // The numbers of the passwords in object 83.
-    pub const MRZ: u8 = 1;
-
-    pub const CAN: u8 = 2;
-
-    pub const PIN: u8 = 3;
-
-    pub const PUK: u8 = 4;
-
     pub fn number(self) -> u8
         ensures { result ≡ password_number self }
     {
-        match self {
-            Password::Mrz => Password::MRZ,
-            Password::Can => Password::CAN,
-            Password::Pin => Password::PIN,
-            Password::Puk => Password::PUK,
-        }
+        self as u8
     }
 
     pub fn is_pin(self) -> bool
         ensures { result ≡ is_pin self }
     {
-        self.number() == Password::PIN
+        self == Password::Pin
     }
 
     pub fn is_can(self) -> bool
         ensures { result ≡ is_can self }
     {
-        self.number() == Password::CAN
+        self == Password::Can
     }
 
     pub fn is_puk(self) -> bool
         ensures { result ≡ is_puk self }
     {
-        self.number() == Password::PUK
+        self == Password::Puk
     }
 }
 
@@ -83,47 +70,33 @@ impl Choice {
     {
         match self {
             Choice::Mrz => Password::Mrz,
-            Choice::Can => Password::Can,
-            Choice::CanFor(_) => Password::Can,
-            Choice::Pin => Password::Pin,
-            Choice::PinFor(_) => Password::Pin,
+            Choice::Can | Choice::CanFor(_) => Password::Can,
+            Choice::Pin | Choice::PinFor(_) => Password::Pin,
             Choice::Puk => Password::Puk,
         }
     }
 
-    pub fn rights(self) -> Granted
+    pub fn rights(self) -> Option<Rights>
         ensures { result ≡ rights_named self }
     {
         match self {
-            Choice::Mrz => Granted::NoRights,
-            Choice::Can => Granted::NoRights,
-            Choice::CanFor(r) => Granted::These(r),
-            Choice::Pin => Granted::NoRights,
-            Choice::PinFor(r) => Granted::These(r),
-            Choice::Puk => Granted::NoRights,
+            Choice::CanFor(rights) | Choice::PinFor(rights) => Some(rights),
+            Choice::Mrz | Choice::Can | Choice::Pin | Choice::Puk => None,
         }
     }
 }
 
 impl Step {
-    // The number of the last.
-    const LAST: u8 = 4;
-
     pub fn number(self) -> u8
         ensures { result ≡ step_number self }
     {
-        match self {
-            Step::Nonce => 1,
-            Step::Map => 2,
-            Step::Agree => 3,
-            Step::Confirm => Step::LAST,
-        }
+        self as u8
     }
 
     pub fn is_last(self) -> bool
         ensures { result ≡ is_last self }
     {
-        self.number() == Step::LAST
+        self == Step::Confirm
     }
 
     pub fn next(self) -> Step
@@ -132,8 +105,7 @@ impl Step {
         match self {
             Step::Nonce => Step::Map,
             Step::Map => Step::Agree,
-            Step::Agree => Step::Confirm,
-            Step::Confirm => Step::Confirm,
+            Step::Agree | Step::Confirm => Step::Confirm,
         }
     }
 }

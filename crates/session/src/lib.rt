@@ -8,15 +8,15 @@ ghost use Rattle.standing.specs.declared.Stage.TheVariants.{Announced};
 
 use event::Issuer;
 use keys::Key;
-use rights::Granted;
-use run::{Choice, Step};
-use standing::{Chain, Opened, Selected, Stage};
+use rights::Rights;
+use run::{Choice, Password, Step};
+use standing::{Chain, Stage};
 
 // What a later store of contexts keeps: all of a session but the selection.
 #[derive(Clone, Copy)]
 pub struct Context {
-    pub opened: Opened,
-    pub confirmed: Granted,
+    pub opened: Option<Password>,
+    pub confirmed: Option<Rights>,
     pub chain: Chain,
     pub stage: Stage,
     pub key: Key,
@@ -25,60 +25,44 @@ pub struct Context {
 #[derive(Clone, Copy)]
 pub struct Session {
     pub context: Context,
-    pub selected: Selected,
+    pub selected: Option<Issuer>,
 }
 
 impl Session {
     // Nothing but who opened it, its rights and its stage.
-    pub fn bare(opened: Opened, confirmed: Granted, stage: Stage) -> Self
+    pub fn bare(opened: Option<Password>, confirmed: Option<Rights>, stage: Stage) -> Self
         ensures { result ≡ bare_session opened confirmed stage }
     {
-        let chain = Chain::none();
-        let key = Key::none();
         Session {
             context: Context {
-                opened: opened,
-                confirmed: confirmed,
-                chain: chain,
-                stage: stage,
-                key: key,
+                opened,
+                confirmed,
+                chain: Chain::none(),
+                stage,
+                key: Key::none(),
             },
-            selected: Selected::NoIssuer,
+            selected: None,
         }
     }
 
     pub fn none() -> Self
         ensures { result ≡ no_session }
     {
-        Session::bare(Opened::Nobody, Granted::NoRights, Stage::Idle)
+        Session::bare(None, None, Stage::Idle)
     }
 
     // A choice is taken: a run opens; rights, chain, selection and stage fall; the opener stays.
     pub fn rechosen(self, choice: Choice) -> Self
         ensures { result ≡ rechosen self choice }
     {
-        let c = self.context;
-        let o = c.opened;
-        Session::bare(o, Granted::NoRights, Stage::Run(choice, Step::Nonce))
+        Session::bare(self.context.opened, None, Stage::Run(choice, Step::Nonce))
     }
 
     // The same session at another stage.
     pub fn at(mut self, stage: Stage) -> Self
         ensures { result ≡ at_stage self stage }
     {
-        let c = self.context;
-        let opened = c.opened;
-        let confirmed = c.confirmed;
-        let chain = c.chain;
-        let key = c.key;
-        let context = Context {
-            opened: opened,
-            confirmed: confirmed,
-            chain: chain,
-            stage: stage,
-            key: key,
-        };
-        self.context = context;
+        self.context.stage = stage;
         self
     }
 
@@ -93,18 +77,8 @@ impl Session {
     pub fn announced(mut self, key: Key) -> Self
         ensures { result ≡ announced_with self key }
     {
-        let c = self.context;
-        let opened = c.opened;
-        let confirmed = c.confirmed;
-        let chain = c.chain;
-        let context = Context {
-            opened: opened,
-            confirmed: confirmed,
-            chain: chain,
-            stage: Stage::Announced,
-            key: key,
-        };
-        self.context = context;
+        self.context.stage = Stage::Announced;
+        self.context.key = key;
         self
     }
 
@@ -112,19 +86,14 @@ impl Session {
     pub fn chained(self, chain: Chain) -> Self
         ensures { result ≡ chained_to self chain }
     {
-        let c = self.context;
-        let opened = c.opened;
-        let confirmed = c.confirmed;
-        let key = Key::none();
         Session {
             context: Context {
-                opened: opened,
-                confirmed: confirmed,
-                chain: chain,
+                chain,
                 stage: Stage::Idle,
-                key: key,
+                key: Key::none(),
+                ..self.context
             },
-            selected: Selected::NoIssuer,
+            selected: None,
         }
     }
 
@@ -132,17 +101,15 @@ impl Session {
     pub fn unchained(self) -> Self
         ensures { result ≡ chained_to self no_chain }
     {
-        let chain = Chain::none();
-        self.chained(chain)
+        self.chained(Chain::none())
     }
 
     pub fn selecting(self, issuer: Issuer) -> Self
         ensures { result ≡ selecting self issuer }
     {
-        let c = self.context;
         Session {
-            context: c,
-            selected: Selected::Of(issuer),
+            selected: Some(issuer),
+            ..self
         }
     }
 }

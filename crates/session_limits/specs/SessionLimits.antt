@@ -1,13 +1,11 @@
 -- "A state is outside its limits exactly when": the rungs that a session has. Assumes nothing: these are definitions.
-use Rattle.std.specs.Prelude.{ℕ, Bool, true, not, ◌&&◌, ◌||◌, eqb}
+use Rattle.std.specs.Prelude.{ℕ, Bool, true, not, ◌&&◌, ◌||◌, eqb, Option, Some, None}
 use Rattle.rights.specs.Rights.{rights_fit, role_of}
 use Rattle.roles.specs.Roles.{is_cvca, is_dv, is_terminal}
 use Rattle.certificate.specs.Certificate.{certificate_fits}
 use Rattle.keys.specs.Keys.{key_fits, key_stands}
 use Rattle.certificate.specs.declared.Certificate.{Certificate}
 use Rattle.rights.specs.declared.Rights.{Rights}
-use Rattle.rights.specs.declared.Granted.{Granted}
-use Rattle.rights.specs.declared.Granted.TheVariants.{These, NoRights}
 use Rattle.run.specs.declared.Choice.{Choice}
 use Rattle.run.specs.declared.Step.{Step}
 use Rattle.run.specs.Run.{password_of, rights_named, is_pin}
@@ -20,9 +18,9 @@ use Rattle.session.specs.declared.Context.{Context}
 use Rattle.standing.specs.Standing.{opened_by_pin, opened_by_can, has_rights, has_dv, has_terminal, from_announced}
 
 -- "rights value": confirmed rights, and those that a running choice names, have at most 40 bits
-abbrev pub granted_fits : Granted → Bool
-granted_fits (These r) = rights_fit r
-granted_fits NoRights = true
+abbrev pub granted_fits : Option Rights → Bool
+granted_fits (Some r) = rights_fit r
+granted_fits None = true
 
 -- each certificate that stands has its role
 unfoldable pub trusted_fits : Rights → Bool

@@ -2,118 +2,86 @@
 #![tactic(auto)]
 
 ghost use Rattle.std.specs.Prelude.{◌≡◌};
-ghost use Rattle.session_limits.specs.SessionLimits.{granted_fits, trusted_fits, dv_fits, terminal_fits, chain_fits, run_fits, stage_fits, ground_fits, context_fits};
+ghost use Rattle.session_limits.specs.SessionLimits.{granted_fits, trusted_fits, dv_fits, terminal_fits, chain_fits, stage_fits, ground_fits, context_fits};
 
 use certificate::Certificate;
-use rights::{Granted, Rights};
-use run::{Choice, Step};
+use rights::Rights;
+use run::Password;
 use session::Context;
-use standing::{Chain, Reach, Stage, has_rights};
+use standing::{Chain, Reach, Stage, opened_by};
 
-fn granted_fits(granted: Granted) -> bool
+fn granted_fits(granted: Option<Rights>) -> bool
     ensures { result ≡ granted_fits granted }
 {
-    match granted {
-        Granted::These(r) => r.fits(),
-        Granted::NoRights => true,
-    }
+    granted.is_none_or(|r| r.fits())
 }
 
 // The rights of the trust point that a DV was accepted under.
+#[tactic(auto, unfolding(crate::specs::SessionLimits::trusted_fits))]
 fn trusted_fits(trusted: Rights) -> bool
     ensures { result ≡ trusted_fits trusted }
 {
-    let fits = trusted.fits();
-    let is_cvca = trusted.role().is_cvca();
-    fits & is_cvca
+    trusted.fits() && trusted.role().is_cvca()
 }
 
+// This and the next are a line each; one function that takes the role's test would be longer than both.
+#[tactic(auto, unfolding(crate::specs::SessionLimits::dv_fits))]
 fn dv_fits(dv: Certificate) -> bool
     ensures { result ≡ dv_fits dv }
 {
-    let rights = dv.rights;
-    let fits = dv.fits();
-    let is_dv = rights.role().is_dv();
-    fits & is_dv
+    dv.fits() && dv.rights.role().is_dv()
 }
 
+#[tactic(auto, unfolding(crate::specs::SessionLimits::terminal_fits))]
 fn terminal_fits(terminal: Certificate) -> bool
     ensures { result ≡ terminal_fits terminal }
 {
-    let rights = terminal.rights;
-    let fits = terminal.fits();
-    let is_terminal = rights.role().is_terminal();
-    fits & is_terminal
+    terminal.fits() && terminal.rights.role().is_terminal()
 }
 
 // What stands in a chain is good; what does not stand there is not judged.
+#[tactic(auto, unfolding(crate::specs::SessionLimits::chain_fits))]
 fn chain_fits(chain: Chain) -> bool
     ensures { result ≡ chain_fits chain }
 {
-    let dv = chain.dv;
-    let terminal = chain.terminal;
-    let reach = chain.reach;
-    match reach {
+    match chain.reach {
         Reach::Empty => true,
-        Reach::ToDv(trusted) => trusted_fits(trusted) & dv_fits(dv),
-        Reach::ToTerminal(trusted) => trusted_fits(trusted) & dv_fits(dv) & terminal_fits(terminal),
+        Reach::ToDv(trusted) => trusted_fits(trusted) && dv_fits(chain.dv),
+        Reach::ToTerminal(trusted) => trusted_fits(trusted)
+            && dv_fits(chain.dv)
+            && terminal_fits(chain.terminal),
     }
 }
 
 // No PIN run stands at counter 0.
-fn run_fits(choice: Choice, _step: Step, pin: u8) -> bool
-    ensures { result ≡ run_fits choice _step pin }
-{
-    let by_pin = choice.password().is_pin();
-    let named = granted_fits(choice.rights());
-    !(by_pin & (pin == 0)) & named
-}
-
 fn stage_fits(stage: Stage, pin: u8) -> bool
     ensures { result ≡ stage_fits stage pin }
 {
-    match stage {
-        Stage::Idle => true,
-        Stage::Run(choice, step) => run_fits(choice, step, pin),
-        Stage::Announced => true,
-        Stage::Challenged => true,
-        Stage::Proven => true,
-        Stage::ChipKeyChosen => true,
-        Stage::Authenticated => true,
-    }
+    let Stage::Run(choice, _) = stage else {
+        return true;
+    };
+    !(choice.password().is_pin() && pin == 0) && granted_fits(choice.rights())
 }
 
 // What each part stands on: rights on an opener, a chain on rights, a stage from announced on upon rights, terminal and key.
+#[tactic(auto, unfolding(crate::specs::SessionLimits::ground_fits))]
 fn ground_fits(c: Context) -> bool
     ensures { result ≡ ground_fits c }
 {
-    let opened = c.opened;
-    let confirmed = c.confirmed;
-    let chain = c.chain;
-    let stage = c.stage;
-    let key = c.key;
-    let rights = has_rights(confirmed);
-    let pin = opened.by_pin();
-    let can = opened.by_can();
-    let on = Stage::ANNOUNCED <= stage.rank();
-    let dv = chain.has_dv();
-    let terminal = chain.has_terminal();
-    let announced = key.stands();
-    (!rights | (pin | can)) & (!dv | rights) & (!on | (rights & terminal & announced))
+    let rights = c.confirmed.is_some();
+    let opener = opened_by(c.opened, Password::Pin) || opened_by(c.opened, Password::Can);
+    let announced = rights && c.chain.has_terminal() && c.key.stands();
+    (!rights || opener) && (!c.chain.has_dv() || rights) && (!c.stage.from_announced() || announced)
 }
 
 // Whether a session's parts are within their limits, with this PIN counter.
+#[tactic(auto, unfolding(crate::specs::SessionLimits::context_fits))]
 pub fn context_fits(context: Context, pin: u8) -> bool
     ensures { result ≡ context_fits context pin }
 {
-    let confirmed = context.confirmed;
-    let chain = context.chain;
-    let stage = context.stage;
-    let key = context.key;
-    let a = granted_fits(confirmed);
-    let b = chain_fits(chain);
-    let c = stage_fits(stage, pin);
-    let d = key.fits();
-    let e = ground_fits(context);
-    a & b & c & d & e
+    granted_fits(context.confirmed)
+        && chain_fits(context.chain)
+        && stage_fits(context.stage, pin)
+        && context.key.fits()
+        && ground_fits(context)
 }

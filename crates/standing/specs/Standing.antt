@@ -1,45 +1,42 @@
 -- What stands in a session, and the questions about it. Assumes nothing: these are definitions.
-use Rattle.std.specs.Prelude.{ℕ, Bool, true, false, ◌&&◌, leb, eqb}
+use Rattle.std.specs.Prelude.{ℕ, Bool, true, false, ◌&&◌, leb, eqb, Option, Some, None}
 use Rattle.certificate.specs.Certificate.{no_certificate}
-use Rattle.rights.specs.declared.Granted.{Granted}
-use Rattle.rights.specs.declared.Granted.TheVariants.{These, NoRights}
 use Rattle.run.specs.Run.{password_number}
 use Rattle.run.specs.declared.Password.TheVariants.{Can, Pin, Puk}
-use Rattle.standing.specs.declared.Opened.{Opened}
-use Rattle.standing.specs.declared.Opened.TheVariants.{Nobody, By}
 use Rattle.standing.specs.declared.Reach.{Reach}
 use Rattle.standing.specs.declared.Reach.TheVariants.{Empty, ToDv, ToTerminal}
 use Rattle.standing.specs.declared.Chain.{Chain}
-use Rattle.standing.specs.declared.Selected.{Selected}
-use Rattle.standing.specs.declared.Selected.TheVariants.{NoIssuer, Of}
 use Rattle.standing.specs.declared.Stage.{Stage}
 use Rattle.standing.specs.declared.Stage.TheVariants.{Run, Idle, Announced as AtAnnounced, Challenged as AtChallenged, Proven as AtProven, ChipKeyChosen as AtChosen, Authenticated as AtAuthenticated}
+use Rattle.rights.specs.declared.Rights.{Rights}
+use Rattle.run.specs.declared.Password.{Password}
+use Rattle.event.specs.declared.Issuer.{Issuer}
 
 -- ---- who opened it: a session is open when, and only when, a password opened it
 
-abbrev pub is_open : Opened → Bool
-is_open Nobody = false
-is_open (By p) = true
+abbrev pub is_open : Option Password → Bool
+is_open None = false
+is_open (Some p) = true
 
 -- the number of the password that opened it, 0 of none
-abbrev pub opener_number : Opened → ℕ
-opener_number Nobody = 0
-opener_number (By p) = password_number p
+abbrev pub opener_number : Option Password → ℕ
+opener_number None = 0
+opener_number (Some p) = password_number p
 
-abbrev pub opened_by_pin : Opened → Bool
+abbrev pub opened_by_pin : Option Password → Bool
 opened_by_pin o = eqb (opener_number o) (password_number Pin)
 
-abbrev pub opened_by_can : Opened → Bool
+abbrev pub opened_by_can : Option Password → Bool
 opened_by_can o = eqb (opener_number o) (password_number Can)
 
-abbrev pub opened_by_puk : Opened → Bool
+abbrev pub opened_by_puk : Option Password → Bool
 opened_by_puk o = eqb (opener_number o) (password_number Puk)
 
 -- ---- what stands in it
 
-abbrev pub has_rights : Granted → Bool
-has_rights (These r) = true
-has_rights NoRights = false
+abbrev pub has_rights : Option Rights → Bool
+has_rights (Some r) = true
+has_rights None = false
 
 abbrev pub reaches_dv : Reach → Bool
 reaches_dv Empty = false
@@ -57,9 +54,9 @@ has_dv c = reaches_dv c.reach
 abbrev pub has_terminal : Chain → Bool
 has_terminal c = reaches_terminal c.reach
 
-abbrev pub is_selected : Selected → Bool
-is_selected NoIssuer = false
-is_selected (Of i) = true
+abbrev pub is_selected : Option Issuer → Bool
+is_selected None = false
+is_selected (Some i) = true
 
 unfoldable pub no_chain : Chain
 no_chain = record { reach = Empty; dv = no_certificate; terminal = no_certificate }

@@ -1,4 +1,5 @@
--- A word's number and the way back, arm by arm, and that they agree. Assumes nothing.
+-- A word's number and the way back agree. Assumes nothing.
+use Rattle.std.specs.Prelude.{Some, None}
 use Prim.Native.Nat.{ℕ, ◌+◌, ◌/◌, ◌%◌, ◌<◌}
 use mathlib.Core.Bool.{Bool, true, false, cond}
 use mathlib.Core.Path.{◌≡◌, refl, sym, ap, ◌∙◌}
@@ -9,20 +10,10 @@ use Rattle.status.specs.Numbered.{value_at}
 use Rattle.status.specs.Words.{word_number, words, word_at}
 use Rattle.status.specs.declared.Word.{Word}
 use Rattle.status.specs.declared.Word.TheVariants.{Done, Tries, NotPassed, Length, Lacking, Blocked, Unusable, Moment, Unprotected, Broken, Data, Parameters, NotFound, Instruction, Class, Outside}
-use Rattle.status.specs.declared.WordOf.{WordOf}
-use Rattle.status.specs.declared.WordOf.TheVariants.{Is, Unknown}
 use Rattle.status.proofs.Numbered.{value-is}
 
-pub number-arm : (x d : Word) (r : ℕ) → x ≡ d → r ≡ word_number d → r ≡ word_number x
-number-arm x d r e z = z ∙ ap (λ (y : Word). word_number y) (sym e)
-
--- ---- the way back
-
-pub read-arm : (n k : ℕ) (r : WordOf) → n ≡ k → r ≡ word_at k → r ≡ word_at n
-read-arm n k r e z = z ∙ ap (λ (m : ℕ). word_at m) (sym e)
-
 -- the number of a word is read as that word, tries under 16
-pub word_back : (w : Word) → ((k : ℕ) → w ≡ Tries k → k < 16) → word_at (word_number w) ≡ Is w
+pub word_back : (w : Word) → ((k : ℕ) → w ≡ Tries k → k < 16) → word_at (word_number w) ≡ Some w
 unfolding word_at word_number
 word_back Done h = refl
 word_back (Tries k) h =
@@ -46,14 +37,14 @@ word_back Class h = refl
 word_back Outside h = refl
 
 -- a word that was read has that number
-pub word-is : (n : ℕ) (w : Word) → word_at n ≡ Is w → word_number w ≡ n
+pub word-is : (n : ℕ) (w : Word) → word_at n ≡ Some w → word_number w ≡ n
 unfolding word_at word_number
 word-is n w e = go (eqb (n / 16) 0x63C) refl e
   where
-    go : (b : Bool) → eqb (n / 16) 0x63C ≡ b → cond b (Is (Tries (n % 16))) (value_at word_number Is words n Unknown) ≡ Is w → word_number w ≡ n
+    go : (b : Bool) → eqb (n / 16) 0x63C ≡ b → cond b (Some (Tries (n % 16))) (value_at word_number Some words n None) ≡ Some w → word_number w ≡ n
     go true q f =
         let t : Tries (n % 16) ≡ w = cc in
         let h : n / 16 ≡ 0x63C = eqb-true (n / 16) 0x63C q in
         let z : 0x63C0 + n % 16 ≡ n = omega arith in
         ap word_number (sym t) ∙ z
-    go false q f = value-is word_number Is (λ v x p. cc) n w words Unknown (λ p. cc) f
+    go false q f = value-is word_number Some (λ v x p. cc) n w words None (λ p. cc) f

@@ -1,12 +1,10 @@
 -- "Status words": the number of each word of document 01's table. Assumes nothing: these are definitions.
-use Rattle.std.specs.Prelude.{ℕ, ◌+◌, ◌/◌, ◌%◌, cond, List, [], ◌∷◌, eqb}
+use Rattle.std.specs.Prelude.{ℕ, ◌+◌, ◌/◌, ◌%◌, cond, List, [], ◌∷◌, eqb, Option, Some, None, Result, Ok, Err, ok_or}
 use Rattle.status.specs.Numbered.{value_at}
 use Rattle.status.specs.declared.Word.{Word}
 use Rattle.status.specs.declared.Word.TheVariants.{Done, Tries, NotPassed, Length, Lacking, Blocked, Unusable, Moment, Unprotected, Broken, Data, Parameters, NotFound, Instruction, Class, Outside}
-use Rattle.status.specs.declared.WordOf.{WordOf}
-use Rattle.status.specs.declared.WordOf.TheVariants.{Is, Unknown}
-use Rattle.status.specs.declared.Intake.{Intake}
-use Rattle.status.specs.declared.Intake.TheVariants.{Accepted, Unfit}
+use Rattle.status.specs.declared.Unfit.{Unfit}
+use Rattle.status.specs.declared.UnknownWord.{UnknownWord}
 
 unfoldable pub word_number : Word → ℕ
 -- done
@@ -59,10 +57,14 @@ words =
     ∷ []
 
 -- the way back: 63CX tells X tries, the others their own number
-unfoldable pub word_at : ℕ → WordOf
-word_at n = cond (eqb (n / 16) 0x63C) (Is (Tries (n % 16))) (value_at word_number Is words n Unknown)
+unfoldable pub word_at : ℕ → Option Word
+word_at n = cond (eqb (n / 16) 0x63C) (Some (Tries (n % 16))) (value_at word_number Some words n None)
+
+-- the same, with an error that names the number that no word has
+abbrev pub word_read : ℕ → Result Word UnknownWord
+word_read n = ok_or (word_at n) (record { 0 = n })
 
 -- "refuses .. with 6A80": a personalisation, and a body that is read alone
-abbrev pub intake_word : Intake → Word
-intake_word Accepted = Done
-intake_word Unfit = Data
+abbrev pub intake_word : {T : Type 0} → Result T Unfit → Word
+intake_word (Ok taken) = Done
+intake_word (Err unfit) = Data

@@ -2,9 +2,9 @@
 #![tactic(auto)]
 
 ghost use Rattle.std.specs.Prelude.{◌≡◌};
-ghost use Rattle.status.specs.Words.{word_number, word_at, intake_word};
+ghost use Rattle.status.specs.Words.{word_number, word_read, intake_word};
 
-#[derive(Clone, Copy)]
+#[derive(Clone, Copy, PartialEq, Eq)]
 pub enum Word {
     Done,
     Tries(u8),
@@ -24,37 +24,30 @@ pub enum Word {
     Outside,
 }
 
-// The word of a number, if there is one.
-#[derive(Clone, Copy)]
-pub enum WordOf {
-    Is(Word),
-    Unknown,
-}
+// Why a body or a personalisation is refused: it is not good.
+#[derive(Clone, Copy, PartialEq, Eq)]
+pub struct Unfit;
 
-// How a body or a personalisation was met.
-#[derive(Clone, Copy)]
-pub enum Intake {
-    Accepted,
-    Unfit,
-}
+// A number that no word has.
+#[derive(Clone, Copy, PartialEq, Eq)]
+pub struct UnknownWord(pub u16);
 
-impl Intake {
-    // Its word: 9000, or 6A80.
-    pub fn word(self) -> Word
-        ensures { result ≡ intake_word self }
-    {
-        match self {
-            Intake::Accepted => Word::Done,
-            Intake::Unfit => Word::Data,
-        }
+// The word of a body or a personalisation: 9000, or 6A80.
+pub fn word_of_intake<T: Copy>(taken: Result<T, Unfit>) -> Word
+    ensures { result ≡ intake_word taken }
+{
+    match taken {
+        Ok(_) => Word::Done,
+        Err(Unfit) => Word::Data,
     }
 }
 
-impl Word {
-    pub fn number(self) -> u16
-        ensures { result ≡ word_number self }
-    {
-        match self {
+impl From<Word> for u16 {
+    ghost from_gives = { λ word n. n ≡ word_number word };
+
+    #[tactic(auto, unfolding(crate::specs::Words::word_number))]
+    fn from(word: Word) -> u16 {
+        match word {
             Word::Done => 0x9000,
             Word::Tries(left) => 0x63C0 + left as u16,
             Word::NotPassed => 0x6300,
@@ -76,28 +69,31 @@ impl Word {
 }
 
 // The way back: 63CX is X tries.
-pub fn word_of(n: u16) -> WordOf
-    ensures { result ≡ word_at n }
-{
-    if n / 16 == 0x63C {
-        return WordOf::Is(Word::Tries((n % 16) as u8));
-    }
-    match n {
-        0x9000 => WordOf::Is(Word::Done),
-        0x6300 => WordOf::Is(Word::NotPassed),
-        0x6700 => WordOf::Is(Word::Length),
-        0x6982 => WordOf::Is(Word::Lacking),
-        0x6983 => WordOf::Is(Word::Blocked),
-        0x6984 => WordOf::Is(Word::Unusable),
-        0x6985 => WordOf::Is(Word::Moment),
-        0x6987 => WordOf::Is(Word::Unprotected),
-        0x6988 => WordOf::Is(Word::Broken),
-        0x6A80 => WordOf::Is(Word::Data),
-        0x6A86 => WordOf::Is(Word::Parameters),
-        0x6A88 => WordOf::Is(Word::NotFound),
-        0x6D00 => WordOf::Is(Word::Instruction),
-        0x6E00 => WordOf::Is(Word::Class),
-        0x6F00 => WordOf::Is(Word::Outside),
-        _ => WordOf::Unknown,
+impl TryFrom<u16> for Word {
+    type Error = UnknownWord;
+
+    ghost try_from_gives = { λ n read. read ≡ word_read n };
+
+    #[tactic(auto, unfolding(crate::specs::Words::word_at, crate::specs::Words::word_number))]
+    fn try_from(n: u16) -> Result<Word, UnknownWord> {
+        Ok(match n {
+            0x63C0..=0x63CF => Word::Tries((n % 16) as u8),
+            0x9000 => Word::Done,
+            0x6300 => Word::NotPassed,
+            0x6700 => Word::Length,
+            0x6982 => Word::Lacking,
+            0x6983 => Word::Blocked,
+            0x6984 => Word::Unusable,
+            0x6985 => Word::Moment,
+            0x6987 => Word::Unprotected,
+            0x6988 => Word::Broken,
+            0x6A80 => Word::Data,
+            0x6A86 => Word::Parameters,
+            0x6A88 => Word::NotFound,
+            0x6D00 => Word::Instruction,
+            0x6E00 => Word::Class,
+            0x6F00 => Word::Outside,
+            _ => return Err(UnknownWord(n)),
+        })
     }
 }

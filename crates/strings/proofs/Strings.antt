@@ -59,9 +59,6 @@ module _ (a e c : ℕ) where
 
 -- ---- all bytes belong to a class
 
-pub class-arm : (x y : Class) (b : ℕ) (r : Bool) → x ≡ y → r ≡ belongs_to y b → r ≡ belongs_to x b
-class-arm x y b r e h = h ∙ ap (λ (z : Class). belongs_to z b) (sym e)
-
 module _ (k : Class) (s : List ℕ) (i : ℕ) (t : Bool) (h : i < length s) (is : t ≡ belongs_to k (get_or s i 0)) where
   pub all-on : not t ≡ false → all_of k (drop i s) ≡ all_of k (drop (i + 1) s)
   all-on e = rw (add-one i, drop-cons s i 0 h, sym is ∙ not-false t e)

@@ -1,10 +1,9 @@
 -- The objects of a command's data: "Every field is filled exactly; objects stand in the order listed." Assumes nothing: these
 -- are definitions.
-use Rattle.std.specs.Prelude.{ℕ, List, Bool, true, false, cond, length, eqb}
+use Rattle.std.specs.Prelude.{ℕ, List, Bool, true, false, cond, length, eqb, Option, Some, None}
 use Rattle.objects.specs.Objects.{part, objects_in, found_in}
 use Rattle.objects.specs.Chain.{answered, taken}
-use Rattle.objects.specs.declared.Found.{Found}
-use Rattle.objects.specs.declared.Found.TheVariants.{Content, Missing}
+use Rattle.objects.specs.declared.Content.{Content}
 use Rattle.strings.specs.Bytes.{eqbs, among}
 
 -- one reading, within the depth and the allowance, of the whole data field
@@ -25,21 +24,21 @@ sized least most c = among least most (length c)
 -- ---- an object found at the start of s, and tested
 
 -- if its content fits
-abbrev pub fitted_by : (List ℕ → Bool) → List ℕ → Found → Found
-fitted_by fits s Missing = Missing
-fitted_by fits s (Content a e) = cond (fits (part a e s)) (Content a e) Missing
+abbrev pub fitted_by : (List ℕ → Bool) → List ℕ → Option Content → Option Content
+fitted_by fits s None = None
+fitted_by fits s (Some c) = cond (fits (part c.start c.end s)) (Some c) None
 
-unfoldable pub fitted : (t : ℕ) (nests : Bool) (fits : List ℕ → Bool) (s : List ℕ) → Found
+unfoldable pub fitted : (t : ℕ) (nests : Bool) (fits : List ℕ → Bool) (s : List ℕ) → Option Content
 fitted t nests fits s = fitted_by fits s (found_in t nests s)
 
 -- if it ends where the bytes end
-unfoldable pub last_of : ℕ → Found → Found
-last_of stop Missing = Missing
-last_of stop (Content a e) = cond (eqb e stop) (Content a e) Missing
+unfoldable pub last_of : ℕ → Option Content → Option Content
+last_of stop None = None
+last_of stop (Some c) = cond (eqb c.end stop) (Some c) None
 
-abbrev pub there : Found → Bool
-there Missing = false
-there (Content a e) = true
+abbrev pub there : Option Content → Bool
+there None = false
+there (Some c) = true
 
 -- an object of this tag with so many bytes is all there is
 unfoldable pub holds : (t least most : ℕ) → List ℕ → Bool

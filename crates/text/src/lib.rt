@@ -2,38 +2,33 @@
 #![tactic(auto)]
 
 ghost use Rattle.std.specs.Prelude.{◌≡◌, ◌+◌, min, take};
-ghost use Rattle.text.specs.Find.{place_of};
+ghost use Rattle.text.specs.Find.{before, place_of};
 
-use strings::clip;
+// How many bytes stand before the first b.
+fn before(s: &[u8], b: u8) -> usize
+    ensures { result ≡ before b s.now }
+{
+    s.iter().position(|c| *c == b).unwrap_or(s.len())
+}
 
 // The place of the first b from a place on, or the end.
 pub fn find(s: &[u8], from: usize, b: u8) -> usize
     ensures { result ≡ place_of s.now from b }
 {
-    let mut i = from;
-    while i < s.len() {
-        if s[i] == b {
-            return i;
-        }
-        i += 1;
-    }
-    s.len()
+    let start = from.min(s.len());
+    start + before(&s[start..], b)
 }
 
 // The place after a place of a string of n bytes, or the end.
 pub fn past(at: usize, n: usize) -> usize
     ensures { result ≡ min (at + 1) n }
 {
-    if at < n {
-        return at + 1;
-    }
-    n
+    at.saturating_add(1).min(n)
 }
 
 // The first n bytes, or all.
 pub fn front(s: &[u8], n: usize) -> &[u8]
     ensures { result.now ≡ take n s.now }
 {
-    let m = clip(n, s.len());
-    &s[..m]
+    &s[..n.min(s.len())]
 }

@@ -1,4 +1,4 @@
-pub mod States
 pub mod Changes
-pub mod Orders
 pub mod Ends
+pub mod Orders
+pub mod States

@@ -1,12 +1,11 @@
 -- The token after each event: every state change of a step. Assumes nothing: these are definitions.
-use Rattle.std.specs.Prelude.{ℕ, ◌-◌, true, false, cond}
+use Rattle.std.specs.Prelude.{ℕ, ◌-◌, true, false, cond, Some, None}
 use Rattle.days.specs.Days.{later}
 use Rattle.certificate.specs.Certificate.{no_certificate, today_after}
 use Rattle.keys.specs.declared.Key.{Key}
 use Rattle.certificate.specs.declared.Certificate.{Certificate}
 use Rattle.brought.specs.declared.Brought.{Brought}
 use Rattle.rights.specs.declared.Rights.{Rights}
-use Rattle.rights.specs.declared.Granted.TheVariants.{NoRights}
 use Rattle.run.specs.declared.Choice.{Choice}
 use Rattle.run.specs.declared.Step.{Step}
 use Rattle.run.specs.Run.{password_of, rights_named, is_pin, next_step, tries}
@@ -14,7 +13,6 @@ use Rattle.event.specs.declared.Issuer.{Issuer}
 use Rattle.event.specs.declared.Event.{Event}
 use Rattle.event.specs.declared.Event.TheVariants.{Refused, Lost, Chosen, StepPassed, Opened as IsOpened, RunClosed, TrialLost, Selected, LinkTaken, DvTaken, TerminalTaken, Announced as IsAnnounced, Challenged as IsChallenged, Proven as IsProven, ProofLost, ChipKeyChosen as IsChosen, Authenticated as IsAuthenticated, ChipLost, ReadAllowed, PinChanged, UnblockedByPuk, UnblockedByRight, Activated, Deactivated, NotPassed}
 use Rattle.trust.specs.Trust.{linked}
-use Rattle.standing.specs.declared.Opened.TheVariants.{By}
 use Rattle.standing.specs.declared.Reach.{Reach}
 use Rattle.standing.specs.declared.Reach.TheVariants.{Empty, ToDv, ToTerminal}
 use Rattle.standing.specs.declared.Stage.{Stage}
@@ -42,11 +40,11 @@ tries_after c pin = cond (is_pin (password_of c)) tries pin
 
 -- "passed opens the session afresh with that password and its rights"
 unfoldable pub opened : Token → Choice → Token
-opened t c = with_pin (with_session t (bare_session (By (password_of c)) (rights_named c) Idle)) (tries_after c t.pin)
+opened t c = with_pin (with_session t (bare_session (Some (password_of c)) (rights_named c) Idle)) (tries_after c t.pin)
 
 -- "An old session stays open without rights"
 unfoldable pub run_closed : Token → Token
-run_closed t = with_session t (bare_session (context_of t).opened NoRights Idle)
+run_closed t = with_session t (bare_session (context_of t).opened None Idle)
 
 -- "otherwise PIN counter down one .., run closed"
 unfoldable pub trial_lost : Token → ℕ → Token

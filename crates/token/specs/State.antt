@@ -1,5 +1,5 @@
 -- The state: "Kept over reset" and "Lost at reset". Record literals of the token stand here alone. Assumes nothing: these are definitions.
-use Rattle.std.specs.Prelude.{ℕ, Bool, true, false, cond, ◌&&◌}
+use Rattle.std.specs.Prelude.{ℕ, Bool, true, false, cond, ◌&&◌, Result, Ok, Err}
 use Rattle.days.specs.Days.{day_fits}
 use Rattle.certificate.specs.Certificate.{no_certificate}
 use Rattle.days.specs.declared.Day.{Day}
@@ -11,8 +11,7 @@ use Rattle.session.specs.declared.Context.{Context}
 use Rattle.session.specs.declared.Session.{Session}
 use Rattle.session.specs.Session.{no_session}
 use Rattle.token.specs.declared.state.Token.{Token}
-use Rattle.status.specs.declared.Intake.TheVariants.{Accepted, Unfit}
-use Rattle.token.specs.declared.state.Personalised.{Personalised}
+use Rattle.status.specs.declared.Unfit.{Unfit}
 
 -- "PUK uses left 0..10 (start 10)"; the PIN's tries stand with its run
 abbrev pub uses : ℕ
@@ -60,5 +59,10 @@ no_token = record { pin = 0; active = false; puk = 0; today = record { 0 = 0 }; 
 
 -- "Personalise takes one or two trust points and a date (newest point first), refuses bad names, bad dates, roles other than
 -- CVCA or equal names with 6A80"
-unfoldable pub made_of : Points → Day → Personalised
-made_of h d = cond (points_fit h && day_fits d) (record { made = Accepted; token = start_of h d }) (record { made = Unfit; token = no_token })
+unfoldable pub made_of : Points → Day → Result Token Unfit
+made_of h d = cond (points_fit h && day_fits d) (Ok (start_of h d)) (Err (record {}))
+
+-- the token that is made, and none where it is refused
+abbrev pub made_token : Result Token Unfit → Token
+made_token (Ok t) = t
+made_token (Err unfit) = no_token

@@ -8,7 +8,7 @@ use days::Day;
 use keys::Key;
 use names::Name;
 use session::Session;
-use status::Intake;
+use status::Unfit;
 use trust::Points;
 
 #[derive(Clone, Copy)]
@@ -19,13 +19,6 @@ pub struct Token {
     pub today: Day,
     pub points: Points,
     pub session: Session,
-}
-
-// A personalisation's answer; `none` values where it was refused.
-#[derive(Clone, Copy)]
-pub struct Personalised {
-    pub made: Intake,
-    pub token: Token,
 }
 
 impl Token {
@@ -43,72 +36,63 @@ impl Token {
     pub const KEY: usize = Key::MOST;
 
     // The start values, PIN active.
+    #[tactic(auto, unfolding(crate::specs::State::start_of))]
     fn start(points: Points, today: Day) -> Self
         ensures { result ≡ start_of points today }
     {
-        let session = Session::none();
         Token {
             pin: Token::TRIES,
             active: true,
             puk: Token::USES,
-            today: today,
-            points: points,
-            session: session,
+            today,
+            points,
+            session: Session::none(),
         }
     }
 
     // No token: outside its limits, whatever it is sent.
+    #[tactic(auto, unfolding(crate::specs::State::no_token))]
     pub fn none() -> Self
         ensures { result ≡ no_token }
     {
-        let certificate = Certificate::none();
-        let points = Points::one(certificate);
-        let session = Session::none();
         Token {
             pin: 0,
             active: false,
             puk: 0,
             today: Day(0),
-            points: points,
-            session: session,
+            points: Points::one(Certificate::none()),
+            session: Session::none(),
         }
     }
 
     // A token of these trust points, if they and the day are good.
-    fn made(points: Points, today: Day) -> Personalised
+    #[tactic(auto, unfolding(crate::specs::State::made_of))]
+    fn made(points: Points, today: Day) -> Result<Self, Unfit>
         ensures { result ≡ made_of points today }
     {
-        let good = points.fit();
-        let dated = today.fits();
-        if good & dated {
-            let token = Token::start(points, today);
-            return Personalised {
-                made: Intake::Accepted,
-                token: token,
-            };
-        }
-        let token = Token::none();
-        Personalised {
-            made: Intake::Unfit,
-            token: token,
+        if points.fit() && today.fits() {
+            Ok(Token::start(points, today))
+        } else {
+            Err(Unfit)
         }
     }
 
     // Personalise with one trust point.
-    pub fn with_one(newest: Certificate, today: Day) -> Personalised
+    pub fn with_one(newest: Certificate, today: Day) -> Result<Self, Unfit>
         ensures { result ≡ made_of (one_point newest) today }
     {
         Token::made(Points::one(newest), today)
     }
 
     // Personalise with two, the newest first.
-    pub fn with_two(newest: Certificate, previous: Certificate, today: Day) -> Personalised
+    pub fn with_two(newest: Certificate, previous: Certificate, today: Day) -> Result<Self, Unfit>
         ensures { result ≡ made_of (two_points newest previous) today }
     {
         Token::made(Points::both(newest, previous), today)
     }
 
     // The session goes, nothing else.
+    #[tactic(auto, unfolding(crate::specs::State::reset_of))]
     pub fn reset(mut self) -> Self
         ensures { result ≡ reset_of self }
     {

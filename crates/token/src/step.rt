@@ -6,7 +6,7 @@ use super::state::Token;
 use plans::Note;
 use verdicts::Answered;
 
-// What a step hands back: the token, and the reply's length.
+// What a step hands back: the token, and the reply's length, as a host in C takes them.
 #[derive(Clone, Copy)]
 pub struct Outcome {
     pub token: Token,
@@ -14,6 +14,7 @@ pub struct Outcome {
 }
 
 impl Token {
+    // A host in C calls it: each string with its length, the buffer that it lends, nothing in a struct of its own.
     pub fn step(
         mut self,
         s: &[u8],
@@ -31,16 +32,9 @@ impl Token {
                 len: 0,
             };
         }
-        let p = self.plan(s, note);
-        let h = verdicts::decide(p, res, first, second);
-        let e = h.event;
-        let n = h.answer;
+        let h = verdicts::decide(self.plan(s, note), res, first, second);
         let next = self.after(h);
-        let points = next.points;
-        let len = answer::answer(points, e, &first[..n], &mut *out);
-        Outcome {
-            token: next,
-            len: len,
-        }
+        let len = answer::answer(next.points, h.event, &first[..h.answer], out);
+        Outcome { token: next, len }
     }
 }

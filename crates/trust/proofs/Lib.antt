@@ -1,2 +1,1 @@
-pub mod TrustPoints
 pub mod Laws

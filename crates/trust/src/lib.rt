@@ -11,79 +11,71 @@ use names::{Listed, Name};
 #[derive(Clone, Copy)]
 pub struct Points {
     pub newest: Certificate,
-    pub previous: Certificate,
-    pub two: bool,
-}
-
-// A trust point of some name, or none.
-#[derive(Clone, Copy)]
-pub enum Trusted {
-    Is(Issuer),
-    Unknown,
+    pub previous: Option<Certificate>,
 }
 
 // Whether a trust point is within its limits.
+#[tactic(auto, unfolding(crate::specs::Trust::trust_point_fits))]
 fn trust_point_fits(p: Certificate) -> bool
     ensures { result ≡ trust_point_fits p }
 {
-    let fits = p.fits();
-    let is_cvca = p.rights.role().is_cvca();
-    fits & is_cvca
+    p.fits() && p.rights.role().is_cvca()
 }
 
 impl Points {
+    #[tactic(auto, unfolding(crate::specs::Trust::one_point))]
     pub fn one(newest: Certificate) -> Self
         ensures { result ≡ one_point newest }
     {
-        let none = Certificate::none();
         Points {
-            newest: newest,
-            previous: none,
-            two: false,
+            newest,
+            previous: None,
         }
     }
 
+    #[tactic(auto, unfolding(crate::specs::Trust::two_points))]
     pub fn both(newest: Certificate, previous: Certificate) -> Self
         ensures { result ≡ two_points newest previous }
     {
         Points {
-            newest: newest,
-            previous: previous,
-            two: true,
+            newest,
+            previous: Some(previous),
         }
     }
 
     // Whether the points are within their limits, and their names differ.
+    #[tactic(auto, unfolding(crate::specs::Trust::points_fit))]
     pub fn fit(self) -> bool
         ensures { result ≡ points_fit self }
     {
-        let first = trust_point_fits(self.newest);
-        let second = trust_point_fits(self.previous);
-        let same = self.previous.name.same(self.newest.name);
-        first & (!self.two | (second & !same))
+        let newest = self.newest;
+        trust_point_fits(newest)
+            && self
+                .previous
+                .is_none_or(|p| trust_point_fits(p) && !p.name.same(newest.name))
     }
 
     // Whether a trust point has this name.
+    #[tactic(auto, unfolding(crate::specs::Trust::knows))]
     pub fn knows(self, name: Name) -> bool
         ensures { result ≡ knows self name }
     {
-        let first = name.same(self.newest.name);
-        let second = name.same(self.previous.name);
-        first | (self.two & second)
+        name.same(self.newest.name) || self.previous.is_some_and(|p| name.same(p.name))
     }
 
     // The trust point of this name.
-    pub fn find(self, name: Name) -> Trusted
+    #[tactic(auto, unfolding(crate::specs::Trust::found))]
+    pub fn find(self, name: Name) -> Option<Issuer>
         ensures { result ≡ found self name }
     {
         if name.same(self.newest.name) {
-            return Trusted::Is(Issuer::Newest);
+            return Some(Issuer::Newest);
         }
-        let second = name.same(self.previous.name);
-        if self.two & second {
-            return Trusted::Is(Issuer::Previous);
+        let previous = self.previous?;
+        if name.same(previous.name) {
+            return Some(Issuer::Previous);
         }
-        Trusted::Unknown
+        None
     }
 
     // The certificate of an issuer, where the chain's DV is this one.
@@ -92,7 +84,7 @@ impl Points {
     {
         match which {
             Issuer::Newest => self.newest,
-            Issuer::Previous => self.previous,
+            Issuer::Previous => self.previous.unwrap_or(Certificate::none()),
             Issuer::Dv => dv,
         }
     }
@@ -103,7 +95,7 @@ impl Points {
     {
         match which {
             Issuer::Newest => true,
-            Issuer::Previous => self.two,
+            Issuer::Previous => self.previous.is_some(),
             Issuer::Dv => stands,
         }
     }
@@ -112,24 +104,20 @@ impl Points {
     pub fn names(self) -> Listed
         ensures { result ≡ names_of self }
     {
-        let first = self.newest.name;
-        let second = self.previous.name;
         Listed {
-            first: first,
-            second: second,
-            both: self.two,
+            first: self.newest.name,
+            second: self.previous.map(|p| p.name),
         }
     }
 
     // A link becomes newest, and newest becomes previous.
+    #[tactic(auto, unfolding(crate::specs::Trust::linked))]
     pub fn linked(self, link: Certificate) -> Self
         ensures { result ≡ linked self link }
     {
-        let old = self.newest;
         Points {
             newest: link,
-            previous: old,
-            two: true,
+            previous: Some(self.newest),
         }
     }
 }

@@ -1,13 +1,9 @@
 -- The verdict's ways, and what is answered. Assumes nothing.
-use borrow.Author.Rules.{rules}
 use Prim.Native.Nat.{ℕ, ◌≤◌}
 use mathlib.Core.Bool.{Bool, true, false, cond, ◌&&◌}
-use mathlib.Core.Path.{◌≡◌, refl, sym, ap, ◌∙◌}
-use mathlib.Core.List.{List, [], ◌∷◌}
-use mathlib.Core.Logic.{⊎_elim}
+use mathlib.Core.Path.{◌≡◌, refl, sym, ◌∙◌}
+use mathlib.Core.List.{List}
 use native.Mathlib.Omega.{arith}
-use types.Run.{OneOf}
-use denote.Enum.Declared.{tag_of}
 use borrow.Author.Tests.{leb-true, eqb-true}
 use lib.Dec.{eqb, leb}
 use lib.ListN.{length}
@@ -23,48 +19,9 @@ use Rattle.verdicts.specs.declared.Verdict.{Verdict}
 use Rattle.verdicts.specs.declared.Verdict.TheVariants.{Passed, Failed, Missing}
 use Rattle.verdicts.specs.declared.Answered.{Answered}
 use Rattle.verdicts.specs.declared.Happened.{Happened}
-use Rattle.verdicts.specs.contracts.Verdict.{the_type}
 use Rattle.run.specs.Run.{is_last}
-use Rattle.plans.specs.Plans.{ending_job}
 use Rattle.verdicts.specs.Verdicts.{job_fits, matches, ends_by, passes_by, judged_of, awaited_of, ending_of, decided_of}
-use Rattle.plans.specs.Plans.{job_number}
-
-module _ (p : Plan) (j : Job) (x y : Event) (a : ℕ) (s : List ℕ) (r : Happened) where
-  -- every verdict but a passed one
-  pub judged-not : (v : Verdict) → OneOf (1 ∷ 2 ∷ []) (tag_of the_type v) → r ≡ ends_by p y → r ≡ judged_of p v j x y a s
-  unfolding judged_of
-  judged-not (Passed n) h z = absurd (⊎_elim (λ w. omega arith) (λ w. omega arith) h)
-  judged-not Failed h z = z
-  judged-not Missing h z = z
-
-  module _ (v : Verdict) (n : ℕ) (e : v ≡ Passed n) (b : Bool) (m : b ≡ matches j p.brought.key s) where
-    pub judged-good : b ≡ true → r ≡ passes_by p j n x a → r ≡ judged_of p v j x y a s
-    unfolding judged_of
-    judged-good h z = rw (e, ← m, h) z
-
-    pub judged-other : b ≡ false → r ≡ ends_by p y → r ≡ judged_of p v j x y a s
-    unfolding judged_of
-    judged-other h z = rw (e, ← m, h) z
-
-  module _ (q : Answered) (m n : ℕ) (f : Bool) (e : m ≡ job_number j) (g : n ≡ job_number q.job) (h : f ≡ job_fits j a (length s)) where
-    pub awaited-fits : eqb m n && f ≡ true → r ≡ judged_of p q.verdict j x y a s → r ≡ awaited_of p q j x y a s
-    unfolding awaited_of
-    awaited-fits i z = rw (← e, ← g, ← h, i) z
-
-    pub awaited-not : eqb m n && f ≡ false → r ≡ ends_by p y → r ≡ awaited_of p q j x y a s
-    unfolding awaited_of
-    awaited-not i z = rw (← e, ← g, ← h, i) z
-
-module _ (p : Plan) (q : Answered) (a : ℕ) (s : List ℕ) (r : Happened) where
-  pub settled-so : (e : Event) → p.ending ≡ Settled e → r ≡ ends_by p e → r ≡ decided_of p q a s
-  unfolding ending_of
-  settled-so e z i = i ∙ ap (λ (c : Ending). ending_of c p q a s) (sym z)
-
-  pub awaited-so : (j : Job) (x y : Event) → p.ending ≡ Awaits j x y → r ≡ awaited_of p q j x y a s → r ≡ decided_of p q a s
-  unfolding ending_of
-  awaited-so j x y z i = i ∙ ap (λ (c : Ending). ending_of c p q a s) (sym z)
-
-pub ruleset decisions = (judged-not, judged-good, judged-other, awaited-fits, awaited-not, settled-so, awaited-so, rules)
+use Rattle.plans.specs.Plans.{ending_job, job_number}
 
 -- ---- what holds of every outcome: the other event, or the passed one with the job's string
 

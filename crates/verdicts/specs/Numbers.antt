@@ -1,10 +1,8 @@
 -- The number of a verdict, and the way back. Assumes nothing: these are definitions.
-use Rattle.std.specs.Prelude.{ℕ, List, [], ◌∷◌}
+use Rattle.std.specs.Prelude.{ℕ, List, [], ◌∷◌, Option, Some, None}
 use Rattle.status.specs.Numbered.{value_at}
 use Rattle.verdicts.specs.declared.Verdict.{Verdict}
 use Rattle.verdicts.specs.declared.Verdict.TheVariants.{Passed, Failed, Missing}
-use Rattle.verdicts.specs.declared.VerdictOf.{VerdictOf}
-use Rattle.verdicts.specs.declared.VerdictOf.TheVariants.{Is, Unknown}
 
 -- "a verdict, passed, failed or none"; none is 0
 abbrev pub verdict_number : Verdict → ℕ
@@ -23,5 +21,5 @@ abbrev pub verdicts : ℕ → List Verdict
 verdicts key = Missing ∷ Passed key ∷ Failed ∷ []
 
 -- a key number counts with passed only
-unfoldable pub verdict_at : ℕ → ℕ → VerdictOf
-verdict_at n key = value_at verdict_number Is (verdicts key) n Unknown
+unfoldable pub verdict_at : ℕ → ℕ → Option Verdict
+verdict_at n key = value_at verdict_number Some (verdicts key) n None

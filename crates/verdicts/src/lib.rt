@@ -3,31 +3,25 @@
 
 ghost use Rattle.std.specs.Prelude.{◌≡◌, length};
 ghost use Rattle.verdicts.specs.Numbers.{verdict_number, verdict_at};
-ghost use Rattle.verdicts.specs.Verdicts.{job_fits, matches, taken_in, ends_by, passes_by, judged_of, awaited_of, decided_of};
+ghost use Rattle.verdicts.specs.Verdicts.{job_fits, matches, taken_in, ends_by, passes_by, decided_of};
 
 use brought::Brought;
 use event::Event;
 use keys::Key;
 use plans::{Ending, Job, Plan};
+use run::Step;
 use strings::STRING;
 
 // The verdict on a job; the passed case carries the key number.
-#[derive(Clone, Copy)]
+#[derive(Clone, Copy, PartialEq, Eq)]
 pub enum Verdict {
     Passed(u64),
     Failed,
     Missing,
 }
 
-// The verdict of a number, if there is one.
-#[derive(Clone, Copy)]
-pub enum VerdictOf {
-    Is(Verdict),
-    Unknown,
-}
-
 // A crypto result, its two strings apart.
-#[derive(Clone, Copy)]
+#[derive(Clone, Copy, PartialEq, Eq)]
 pub struct Answered {
     pub job: Job,
     pub verdict: Verdict,
@@ -41,11 +35,11 @@ pub struct Happened {
     pub answer: usize,
 }
 
-impl Verdict {
-    pub fn number(self) -> u8
-        ensures { result ≡ verdict_number self }
-    {
-        match self {
+impl From<Verdict> for u8 {
+    ghost from_gives = { λ verdict n. n ≡ verdict_number verdict };
+
+    fn from(verdict: Verdict) -> u8 {
+        match verdict {
             Verdict::Missing => 0,
             Verdict::Passed(_) => 1,
             Verdict::Failed => 2,
@@ -54,14 +48,15 @@ impl Verdict {
 }
 
 // The way back; a key number counts with passed only.
-pub fn verdict_of(n: u8, key: u64) -> VerdictOf
+#[tactic(auto, unfolding(crate::specs::Numbers::verdict_at))]
+pub fn verdict_of(n: u8, key: u64) -> Option<Verdict>
     ensures { result ≡ verdict_at n key }
 {
     match n {
-        0 => VerdictOf::Is(Verdict::Missing),
-        1 => VerdictOf::Is(Verdict::Passed(key)),
-        2 => VerdictOf::Is(Verdict::Failed),
-        _ => VerdictOf::Unknown,
+        0 => Some(Verdict::Missing),
+        1 => Some(Verdict::Passed(key)),
+        2 => Some(Verdict::Failed),
+        _ => None,
     }
 }
 
@@ -71,17 +66,10 @@ fn fits(job: Job, first: usize, second: usize) -> bool
 {
     match job {
         Job::Nothing => false,
-        Job::Step(p) => {
-            if p.is_last() {
-                return (first == 8) & (second == 0);
-            }
-            ((1 <= first) & (first <= STRING)) & (second == 0)
-        }
-        Job::Certificate => (first == 0) & (second == 0),
-        Job::Challenge => (first == 8) & (second == 0),
-        Job::Proof => (first == 0) & (second == 0),
-        Job::ChipKey => (first == 16) & ((1 <= second) & (second <= Key::MOST)),
-        Job::PinChange => (first == 0) & (second == 0),
+        Job::Step(Step::Confirm) | Job::Challenge => first == 8 && second == 0,
+        Job::Step(_) => 1 <= first && first <= STRING && second == 0,
+        Job::Certificate | Job::Proof | Job::PinChange => first == 0 && second == 0,
+        Job::ChipKey => first == 16 && 1 <= second && second <= Key::MOST,
     }
 }
 
@@ -89,108 +77,58 @@ fn fits(job: Job, first: usize, second: usize) -> bool
 fn matches(job: Job, key: Key, second: &[u8]) -> bool
     ensures { result ≡ matches job key second.now }
 {
-    match job {
-        Job::Nothing => true,
-        Job::Step(_) => true,
-        Job::Certificate => true,
-        Job::Challenge => true,
-        Job::Proof => true,
-        Job::ChipKey => key.is(second),
-        Job::PinChange => true,
-    }
+    job != Job::ChipKey || key.is(second)
 }
 
 // A passed certificate's key number is kept with it.
 fn taken_in(job: Job, brought: Brought, number: u64) -> Brought
     ensures { result ≡ taken_in job brought number }
 {
-    match job {
-        Job::Nothing => brought,
-        Job::Step(_) => brought,
-        Job::Certificate => { brought.with_certificate(brought.certificate.with_key(number)) }
-        Job::Challenge => brought,
-        Job::Proof => brought,
-        Job::ChipKey => brought,
-        Job::PinChange => brought,
+    if job == Job::Certificate {
+        return brought.with_certificate(brought.certificate.with_key(number));
     }
+    brought
 }
 
 // What happens where nothing is answered.
-fn ends(plan: Plan, e: Event) -> Happened
-    ensures { result ≡ ends_by plan e }
+#[tactic(auto, unfolding(crate::specs::Verdicts::ends_by))]
+fn ends(plan: Plan, event: Event) -> Happened
+    ensures { result ≡ ends_by plan event }
 {
-    let brought = plan.brought;
     Happened {
-        event: e,
-        brought: brought,
+        event,
+        brought: plan.brought,
         answer: 0,
     }
 }
 
 // What happens where the job was passed.
-fn passes(plan: Plan, job: Job, number: u64, e: Event, answer: usize) -> Happened
-    ensures { result ≡ passes_by plan job number e answer }
+#[tactic(auto, unfolding(crate::specs::Verdicts::passes_by))]
+fn passes(plan: Plan, job: Job, number: u64, event: Event, answer: usize) -> Happened
+    ensures { result ≡ passes_by plan job number event answer }
 {
-    let taken = taken_in(job, plan.brought, number);
     Happened {
-        event: e,
-        brought: taken,
-        answer: answer,
+        event,
+        brought: taken_in(job, plan.brought, number),
+        answer,
     }
 }
 
-// A missing verdict is never a good one.
-fn judged(
-    plan: Plan,
-    v: Verdict,
-    job: Job,
-    passed: Event,
-    otherwise: Event,
-    first: usize,
-    second: &[u8],
-) -> Happened
-    ensures { result ≡ judged_of plan v job passed otherwise first second.now }
+// A missing verdict is never a good one; a result for another job, or with other lengths, counts as none.
+#[tactic(auto, unfolding(crate::specs::Verdicts::ending_of, crate::specs::Verdicts::awaited_of, crate::specs::Verdicts::judged_of))]
+pub fn decide(plan: Plan, answered: Answered, first: &[u8], second: &[u8]) -> Happened
+    ensures { result ≡ decided_of plan answered (length first.now) second.now }
 {
-    let Verdict::Passed(number) = v else {
+    let (job, passed, otherwise) = match plan.ending {
+        Ending::Settled(event) => return ends(plan, event),
+        Ending::Awaits(job, passed, otherwise) => (job, passed, otherwise),
+    };
+    let Verdict::Passed(number) = answered.verdict else {
         return ends(plan, otherwise);
     };
-    if matches(job, plan.brought.key, second) {
-        return passes(plan, job, number, passed, first);
+    let counts = answered.job == job && fits(job, first.len(), second.len());
+    if counts && matches(job, plan.brought.key, second) {
+        return passes(plan, job, number, passed, first.len());
     }
     ends(plan, otherwise)
-}
-
-// A result for another job, or with other lengths, counts as none.
-fn awaited(
-    plan: Plan,
-    a: Answered,
-    job: Job,
-    passed: Event,
-    otherwise: Event,
-    first: usize,
-    second: &[u8],
-) -> Happened
-    ensures { result ≡ awaited_of plan a job passed otherwise first second.now }
-{
-    let done = a.job;
-    let v = a.verdict;
-    let wanted = job.number();
-    let named = done.number();
-    let sized = fits(job, first, second.len());
-    if (wanted == named) & sized {
-        return judged(plan, v, job, passed, otherwise, first, second);
-    }
-    ends(plan, otherwise)
-}
-
-pub fn decide(plan: Plan, a: Answered, first: &[u8], second: &[u8]) -> Happened
-    ensures { result ≡ decided_of plan a (length first.now) second.now }
-{
-    let c = plan.ending;
-    match c {
-        Ending::Settled(e) => ends(plan, e),
-        Ending::Awaits(job, passed, otherwise) => {
-            awaited(plan, a, job, passed, otherwise, first.len(), second)
-        }
-    }
 }

@@ -1,20 +1,21 @@
 // How what a line brings is answered.
-use buffers::put;
+use buffers::Sheet;
 use digits::number::{Radix, put_digits};
-use status::Intake;
+use status::{Unfit, word_of_intake};
 
-pub fn ok(out: &mut [u8]) -> usize {
-    put(&mut *out, 0, b"ok")
+pub fn ok(out: &mut Sheet) {
+    out.put(b"ok")
 }
 
-// The word of an intake.
-pub(crate) fn refused(out: &mut [u8], made: Intake) -> usize {
-    put_digits(&mut *out, 0, made.word().number() as u64, Radix::Sixteen, 4)
+// The word of what is not good.
+pub(crate) fn refused(out: &mut Sheet, e: Unfit) {
+    let word = word_of_intake::<()>(Err(e));
+    put_digits(out, u16::from(word) as u64, Radix::Sixteen, 4)
 }
 
-pub fn taken(out: &mut [u8], made: Intake) -> usize {
+pub fn taken<T: Copy>(out: &mut Sheet, made: Result<T, Unfit>) {
     match made {
-        Intake::Accepted => ok(&mut *out),
-        Intake::Unfit => refused(&mut *out, made),
+        Ok(_) => ok(out),
+        Err(e) => refused(out, e),
     }
 }

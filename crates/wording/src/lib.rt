@@ -6,7 +6,6 @@ pub mod body;
 pub mod expected;
 pub mod intake;
 mod labelled;
-mod labels;
 pub mod personalisation;
 pub mod send;
 pub mod state;

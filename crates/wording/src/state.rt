@@ -1,141 +1,111 @@
 // What a token keeps over a reset, and what it loses: its session.
 use super::labelled;
-use super::labels::label;
 use authorization::authorization;
-use buffers::put;
+use buffers::Sheet;
 use days::Day;
 use event::Issuer;
-use rights::{Granted, Rights};
-use run::Password;
+use rights::Rights;
+use run::{Password, Step};
 use session::Session;
-use standing::{Chain, Opened, Selected, Stage};
+use standing::{Chain, Stage};
 use trust::Points;
 use words::count;
 
-fn counters(out: &mut [u8], pin: u8, active: bool, puk: u8) -> usize {
-    let a = labelled::number(&mut *out, 0, b"pin=", pin as u64);
-    let b = label(&mut *out, a, b" active=no\n active=yes", active as usize);
-    labelled::number(&mut *out, b, b" puk=", puk as u64)
+// What a token keeps over a reset.
+#[derive(Clone, Copy)]
+pub struct KeptOverReset {
+    pub pin: u8,
+    pub active: bool,
+    pub puk: u8,
+    pub today: Day,
+    pub points: Points,
 }
 
-fn trusted(out: &mut [u8], at: usize, today: Day, p: Points) -> usize {
-    let listed = p.names();
-    let a = labelled::day(&mut *out, at, b" today=", today);
-    let b = labelled::name(&mut *out, a, b" newest=", true, listed.first);
-    labelled::name(&mut *out, b, b" previous=", listed.both, listed.second)
-}
+impl KeptOverReset {
+    fn counters(self, out: &mut Sheet) {
+        labelled::number(out, b"pin=", self.pin as u64);
+        out.put(if self.active {
+            b" active=yes"
+        } else {
+            b" active=no"
+        });
+        labelled::number(out, b" puk=", self.puk as u64)
+    }
 
-fn opener(o: Opened) -> usize {
-    let Opened::By(password) = o else {
-        return 0;
-    };
-    match password {
-        Password::Mrz => 1,
-        Password::Can => 2,
-        Password::Pin => 3,
-        Password::Puk => 4,
+    fn trusted(self, out: &mut Sheet) {
+        let listed = self.points.names();
+        labelled::day(out, b" today=", self.today);
+        labelled::name(out, b" newest=", Some(listed.first));
+        labelled::name(out, b" previous=", listed.second)
     }
 }
 
-fn reached(s: Stage) -> usize {
+fn opener(o: Option<Password>) -> &'static [u8] {
+    match o {
+        None => b" opened=none",
+        Some(Password::Mrz) => b" opened=mrz",
+        Some(Password::Can) => b" opened=can",
+        Some(Password::Pin) => b" opened=pin",
+        Some(Password::Puk) => b" opened=puk",
+    }
+}
+
+fn reached(s: Stage) -> &'static [u8] {
     match s {
-        Stage::Idle => 0,
-        Stage::Run(_, step) => step.number() as usize,
-        Stage::Announced => 5,
-        Stage::Challenged => 6,
-        Stage::Proven => 7,
-        Stage::ChipKeyChosen => 8,
-        Stage::Authenticated => 9,
+        Stage::Idle => b" stage=idle",
+        Stage::Run(_, Step::Nonce) => b" stage=step1",
+        Stage::Run(_, Step::Map) => b" stage=step2",
+        Stage::Run(_, Step::Agree) => b" stage=step3",
+        Stage::Run(_, Step::Confirm) => b" stage=step4",
+        Stage::Announced => b" stage=announced",
+        Stage::Challenged => b" stage=challenged",
+        Stage::Proven => b" stage=proven",
+        Stage::ChipKeyChosen => b" stage=chosen",
+        Stage::Authenticated => b" stage=authenticated",
     }
 }
 
-fn granted(out: &mut [u8], at: usize, g: Granted) -> usize {
-    let Granted::These(r) = g else {
-        return put(&mut *out, at, b" confirmed=none");
-    };
-    labelled::rights(&mut *out, at, b" confirmed=", r)
-}
-
-fn opened(out: &mut [u8], at: usize, o: Opened, s: Stage, g: Granted) -> usize {
-    let a = label(
-        &mut *out,
-        at,
-        b" opened=none\n opened=mrz\n opened=can\n opened=pin\n opened=puk",
-        opener(o),
-    );
-    let b = label(
-        &mut *out,
-        a,
-        b" stage=idle\n stage=step1\n stage=step2\n stage=step3\n stage=step4\n stage=announced\n stage=challenged\n stage=proven\n stage=chosen\n stage=authenticated",
-        reached(s),
-    );
-    granted(&mut *out, b, g)
-}
-
-fn chained(out: &mut [u8], at: usize, c: Chain) -> usize {
-    let a = labelled::name(&mut *out, at, b" dv=", c.has_dv(), c.dv.name);
-    labelled::name(
-        &mut *out,
-        a,
-        b" terminal=",
-        c.has_terminal(),
-        c.terminal.name,
-    )
-}
-
-fn issuer(s: Selected) -> usize {
-    let Selected::Of(i) = s else {
-        return 0;
-    };
-    match i {
-        Issuer::Newest => 1,
-        Issuer::Previous => 2,
-        Issuer::Dv => 3,
+fn granted(out: &mut Sheet, g: Option<Rights>) {
+    match g {
+        Some(r) => labelled::rights(out, b" confirmed=", r),
+        None => out.put(b" confirmed=none"),
     }
 }
 
-fn ended(out: &mut [u8], at: usize, s: Selected, r: Rights) -> usize {
-    let a = label(
-        &mut *out,
-        at,
-        b" selected=none\n selected=newest\n selected=previous\n selected=dv",
-        issuer(s),
-    );
-    labelled::rights(&mut *out, a, b" effective=", r)
+fn chained(out: &mut Sheet, c: Chain) {
+    let dv = c.has_dv().then_some(c.dv.name);
+    let terminal = c.has_terminal().then_some(c.terminal.name);
+    labelled::name(out, b" dv=", dv);
+    labelled::name(out, b" terminal=", terminal)
 }
 
-// What is kept over a reset; the place after it.
-fn kept(out: &mut [u8], pin: u8, active: bool, puk: u8, today: Day, p: Points) -> usize {
-    let a = counters(&mut *out, pin, active, puk);
-    trusted(&mut *out, a, today, p)
+fn issuer(s: Option<Issuer>) -> &'static [u8] {
+    match s {
+        None => b" selected=none",
+        Some(Issuer::Newest) => b" selected=newest",
+        Some(Issuer::Previous) => b" selected=previous",
+        Some(Issuer::Dv) => b" selected=dv",
+    }
 }
 
 // What is lost at a reset, and the rights that a session has in effect.
-fn lost(out: &mut [u8], at: usize, s: Session) -> usize {
-    let selected = s.selected;
+fn lost(out: &mut Sheet, s: Session) {
     let context = s.context;
-    let who = context.opened;
-    let which = context.stage;
-    let confirmed = context.confirmed;
-    let a = opened(&mut *out, at, who, which, confirmed);
-    let b = chained(&mut *out, a, context.chain);
-    ended(&mut *out, b, selected, authorization(context))
+    out.put(opener(context.opened));
+    out.put(reached(context.stage));
+    granted(out, context.confirmed);
+    chained(out, context.chain);
+    out.put(issuer(s.selected));
+    labelled::rights(out, b" effective=", authorization(context))
 }
 
-// What a token keeps, and its session; nothing where the line has another word.
-pub fn state(
-    line: &[u8],
-    out: &mut [u8],
-    pin: u8,
-    active: bool,
-    puk: u8,
-    today: Day,
-    p: Points,
-    s: Session,
-) -> usize {
+// What a token keeps, and its session; nothing, and None, where the line has another word.
+pub fn state(line: &[u8], out: &mut Sheet, kept: KeptOverReset, session: Session) -> Option<()> {
     if count(line, b' ') != 0 {
-        return 0;
+        return None;
     }
-    let at = kept(&mut *out, pin, active, puk, today, p);
-    lost(&mut *out, at, s)
+    kept.counters(out);
+    kept.trusted(out);
+    lost(out, session);
+    Some(())
 }

@@ -1,52 +1,63 @@
--- The parts of a string, taken one after the other, and a byte that is counted. Assumes nothing.
-use Prim.Native.Nat.{ℕ, zero, suc, ◌+◌, ◌-◌, ◌≤◌, ◌<◌, min}
+-- The parts of a string and a byte that is counted, in the library's words, and what a line is. Assumes nothing.
+use Prim.Native.Nat.{ℕ, zero, suc, ◌+◌, ◌≤◌, ◌<◌}
 use mathlib.Core.Path.{◌≡◌, refl, sym, ap, ◌∙◌}
 use mathlib.Core.Bool.{Bool, true, false, cond}
 use mathlib.Core.List.{List, [], ◌∷◌}
 use native.Mathlib.Omega.{arith}
-use native.Mathlib.Numerals.{add-one}
 use lib.Dec.{eqb}
-use lib.ListN.{length, take, drop, get_or}
-use lib.Seq.{drop-cons, drop-drop}
-use borrow.Author.Tests.{le-leb, lt-ltb, le-ltb, eq-eqb, ne_eqb}
-use Rattle.laws.proofs.Lists.{drop_min}
-use Rattle.laws.proofs.Rungs.{rungs}
-use Rattle.text.specs.Find.{before, place_of}
+use Rattle.std.specs.Prelude.{Option, None, Some, unwrap_or, option_map}
+use denote.Ref.{Bor}
+use Rattle.std.specs.List.{slice_split, onto_first, slice_get, count_by}
+use Rattle.std.proofs.lemmas.List.Recursion.{is_count_by}
+use native.Mathlib.Nat.{zero-add}
+use lib.ListN.{length, get_or}
+use borrow.Author.Tests.{lt-ltb, le-ltb, eq-eqb, ne_eqb}
 use Rattle.words.specs.Words.{part_of, word_at, occurrences}
 use Rattle.words.specs.declared.Verb.{Verb}
 use Rattle.words.specs.declared.Verb.TheVariants.{Silent, Overlong, Unknown, NoToken, Personalise, Reset, Send, Want, Read, Body, State}
-use Rattle.words.specs.Verbs.{longest_line, about_token, if_held, named_by, spoken_of, verb_of}
+use Rattle.words.specs.Verbs.{longest_line, if_held, named_by, spoken_of, verb_of}
 
-module _ (b : ℕ) (s : List ℕ) (at e : ℕ) (h : at ≤ length s) (f : e ≡ place_of s at b) where
-  -- the next b stands so far on
-  ahead : e ≡ at + before b (drop at s)
-  unfolding place_of
-  ahead = f ∙ rw (le-leb at (length s) h)
+-- how often a byte stands, in the library's words
+pub occurrences_by : (b : ℕ) (s : List ℕ) → occurrences b s ≡ count_by (λ c. eqb c b) s
+occurrences_by b = is_count_by (occurrences b) (λ c. eqb c b) refl (λ c s. go (eqb c b) (occurrences b s))
+  where
+    go : (t : Bool) (n : ℕ) → cond t 1 0 + n ≡ cond t (1 + n) n
+    go true n = refl
+    go false n = zero-add n
 
-  -- the next part starts after it
-  pub part-on : (k r : ℕ) → r ≡ min (e + 1) (length s) → part_of b (suc k) (drop at s) ≡ part_of b k (drop r s)
-  part-on k r g =
-      let n : at + suc (before b (drop at s)) ≡ e + 1 = omega (arith, ahead) in
-      ap (part_of b k) (drop-drop (suc (before b (drop at s))) at s ∙ ap (λ (m : ℕ). drop m s) n ∙ sym (ap (λ (m : ℕ). drop m s) g ∙ drop_min (e + 1) s))
+-- ---- the parts, in the library's words
 
-  pub part-next : (left r : ℕ) → 0 < left → r ≡ min (e + 1) (length s) → part_of b left (drop at s) ≡ part_of b (left - 1) (drop r s)
-  part-next (suc k) r p g = let z : suc k - 1 ≡ k = omega arith in rw z (part-on k r g)
-  part-next zero r p g = absurd (let z : 0 < 0 = p in omega arith)
+part_none : (b k : ℕ) → part_of b k [] ≡ []
+part_none b zero = refl
+part_none b (suc k) = part_none b k
 
-  -- a part ends before it
-  pub part-here : take (e - at) (drop at s) ≡ part_of b 0 (drop at s)
-  part-here = ap (λ (m : ℕ). take m (drop at s)) (let z : e - at ≡ before b (drop at s) = omega (arith, ahead) in z)
+first-onto : (c : ℕ) (l : List (List ℕ)) → unwrap_or (slice_get (onto_first c l) 0) [] ≡ c ∷ unwrap_or (slice_get l 0) []
+first-onto c [] = refl
+first-onto c (x ∷ l) = refl
 
--- what `start` answers, and the next b, give the part
-pub part-is : (b k : ℕ) (s : List ℕ) (at e : ℕ) → (at ≤ length s) × (part_of b 0 (drop at s) ≡ part_of b k s) → e ≡ place_of s at b → take (e - at) (drop at s) ≡ part_of b k s
-part-is b k s at e h f = part-here b s at e h.0 f ∙ h.1
+later-onto : (c k : ℕ) (l : List (List ℕ)) → slice_get (onto_first c l) (suc k) ≡ slice_get l (suc k)
+later-onto c k [] = refl
+later-onto c k (x ∷ l) = refl
 
-pub part-last : (b : ℕ) (s : List ℕ) (left : ℕ) → left ≡ 0 → part_of b 0 s ≡ part_of b left s
-part-last b s left e = ap (λ (k : ℕ). part_of b k s) (sym e)
+pub part_is : (b k : ℕ) (s : List ℕ) → part_of b k s ≡ unwrap_or (slice_get (slice_split (λ c. eqb c b) s) k) []
+part_is b zero [] = refl
+part_is b (suc k) [] = part_none b k
+part_is b zero (c ∷ s) = go (part_is b zero s) (eqb c b) refl
+  where
+    go : part_of b 0 s ≡ unwrap_or (slice_get (slice_split (λ d. eqb d b) s) 0) [] → (t : Bool) → eqb c b ≡ t → part_of b 0 (c ∷ s) ≡ unwrap_or (slice_get (slice_split (λ d. eqb d b) (c ∷ s)) 0) []
+    go h true q = rw q
+    go h false q = rw q (ap (λ (l : List ℕ). c ∷ l) h ∙ sym (first-onto c (slice_split (λ d. eqb d b) s)))
+part_is b (suc k) (c ∷ s) = go (part_is b k s) (part_is b (suc k) s) (eqb c b) refl
+  where
+    go : part_of b k s ≡ unwrap_or (slice_get (slice_split (λ d. eqb d b) s) k) [] → part_of b (suc k) s ≡ unwrap_or (slice_get (slice_split (λ d. eqb d b) s) (suc k)) []
+        → (t : Bool) → eqb c b ≡ t → part_of b (suc k) (c ∷ s) ≡ unwrap_or (slice_get (slice_split (λ d. eqb d b) (c ∷ s)) (suc k)) []
+    go h g true q = rw q h
+    go h g false q = rw q (g ∙ ap (λ (o : Option (List ℕ)). unwrap_or o []) (sym (later-onto c k (slice_split (λ d. eqb d b) s))))
 
--- one byte more is counted
-pub count-on : (b n i k : ℕ) (s : List ℕ) → i < length s → k ≡ cond (eqb (get_or s i 0) b) 1 0 → n + occurrences b (drop i s) ≡ n + k + occurrences b (drop (i + 1) s)
-count-on b n i k s h e = rw (add-one i, drop-cons s i 0 h, e) (omega arith)
+-- what is asked of what is lent is asked of what it shows
+pub shown : (r : Option (Bor (List ℕ))) (x : Bor (List ℕ)) (o : Option (List ℕ)) → option_map (λ y. y.now) r ≡ o → (unwrap_or r x).now ≡ unwrap_or o x.now
+shown None x o e = rw (← e)
+shown (Some y) x o e = rw (← e)
 
 -- a token that is held changes nothing
 pub held_stays : (held : Bool) (v : Verb) → held ≡ true → v ≡ if_held held v
@@ -61,9 +72,6 @@ held_stays held Send e = rw e
 held_stays held Want e = rw e
 held_stays held Read e = rw e
 held_stays held State e = rw e
-
-pub about-held : (w : List ℕ) (held : Bool) (v r : Verb) → v ≡ about_token w → r ≡ if_held held v → r ≡ if_held held (about_token w)
-about-held w held v r e f = f ∙ ap (if_held held) e
 
 -- ---- what a line is
 
@@ -98,12 +106,3 @@ module _ (s : List ℕ) (held : Bool) where
           go : (l : List ℕ) → (length l ≡ 0 → ⊥) → (get_or l 0 0 ≡ 0x23 → ⊥) → spoken_of l held ≡ named_by (word_at 0 l) held
           go [] n e = absurd (n refl)
           go (c ∷ l) n e = rw (ne_eqb c 0x23 e)
-
--- what a test answered, where it is known what it asks
-pub answered-yes : (b t : Bool) → b ≡ t → b ≡ true → t ≡ true
-answered-yes b t e f = sym e ∙ f
-
-pub answered-no : (b t : Bool) → b ≡ t → b ≡ false → t ≡ false
-answered-no b t e f = sym e ∙ f
-
-pub ruleset asked = (answered-yes, answered-no, about-held, rungs)

@@ -1,48 +1,24 @@
 -- `bodies::from_issuer` meets its contract: a link of the chain.
-use Rattle.bodies.specs.Body.{issuer_then}
-use Rattle.bodies.proofs.Links.{links}
+use Rattle.std.proofs.Common.{◌∙◌}
+use Rattle.names.specs.Names.{is_name, name_of}
+use Rattle.bodies.specs.Body.{issuer_then, key_then}
+use Rattle.bodies.proofs.Links.{missing, unfit, flat-on, took-at, name-holds, name-fails, err-unread}
 use Rattle.bodies.proofs.from_issuer.Goals as goal
 
-pub returns-in_default : goal.returns-in_default
+pub returns-in_err-object : goal.returns-in_err-object
 unfolding issuer_then
-returns-in_default c = search links
+returns-in_err-object c = missing _ _ _ _ c.args.at _ _ _ c.from_residual.ensures.0 c.in_err-object.ensures
 
-pub slice_bounds-is_name-count : goal.slice_bounds-is_name-count
+pub returns-in_err-issuer : goal.returns-in_err-issuer
 unfolding issuer_then
-slice_bounds-is_name-count c = search links
+returns-in_err-issuer c = unfit _ _ _ _ c.args.at _ _ _ _ c.in_ok-object.ensures (name-fails _ _ c.in_err-issuer.ensures) (err-unread _ c.from_residual-in_err-issuer.ensures.0)
 
-pub slice_bounds-is_name-start : goal.slice_bounds-is_name-start
-unfolding issuer_then
-slice_bounds-is_name-start c = search links
+pub from_key-requires : goal.from_key-requires
+from_key-requires c = took-at _ _ 3 c.args.at _ c.in_ok-object.ensures c.requires
 
-pub slice_bounds-is_name-end : goal.slice_bounds-is_name-end
+pub returns : goal.returns
 unfolding issuer_then
-slice_bounds-is_name-end c = search links
-
-pub slice_bounds-of-count : goal.slice_bounds-of-count
-unfolding issuer_then
-slice_bounds-of-count c = search links
-
-pub slice_bounds-of-start : goal.slice_bounds-of-start
-unfolding issuer_then
-slice_bounds-of-start c = search links
-
-pub slice_bounds-of-end : goal.slice_bounds-of-end
-unfolding issuer_then
-slice_bounds-of-end c = search links
-
-pub slice_bounds-from_key-count : goal.slice_bounds-from_key-count
-unfolding issuer_then
-slice_bounds-from_key-count c = search links
-
-pub slice_bounds-from_key-start : goal.slice_bounds-from_key-start
-unfolding issuer_then
-slice_bounds-from_key-start c = search links
-
-pub returns-then-is_name : goal.returns-then-is_name
-unfolding issuer_then
-returns-then-is_name c = search links
-
-pub returns-else-is_name : goal.returns-else-is_name
-unfolding issuer_then
-returns-else-is_name c = search links
+returns c =
+    let k = c.in_ok-object.ensures in
+    let n = name-holds _ _ c.in_ok-issuer.ensures in
+    c.from_key.ensures ∙ rw (k.stop, n.1) (flat-on 0x42 c.args.at is_name (λ c' e. key_then c.args.at.stop (name_of c')) _ k n.0)

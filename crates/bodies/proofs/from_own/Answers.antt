@@ -1,48 +1,25 @@
 -- `bodies::from_own` meets its contract: a link of the chain.
-use Rattle.bodies.specs.Body.{own_then}
-use Rattle.bodies.proofs.Links.{links}
+use Rattle.std.proofs.Common.{◌∙◌}
+use Rattle.objects.specs.Objects.{allowance}
+use Rattle.names.specs.Names.{is_name, name_of}
+use Rattle.bodies.specs.Body.{own_then, rights_then}
+use Rattle.bodies.proofs.Links.{missing, unfit, flat-on, took-at, name-holds, name-fails, err-unread}
 use Rattle.bodies.proofs.from_own.Goals as goal
 
-pub returns-in_default : goal.returns-in_default
+pub returns-in_err-object : goal.returns-in_err-object
 unfolding own_then
-returns-in_default c = search links
+returns-in_err-object c = missing _ _ _ _ c.args.at _ _ _ c.from_residual.ensures.0 c.in_err-object.ensures
 
-pub slice_bounds-is_name-count : goal.slice_bounds-is_name-count
+pub returns-in_err-name : goal.returns-in_err-name
 unfolding own_then
-slice_bounds-is_name-count c = search links
+returns-in_err-name c = unfit _ _ _ _ c.args.at _ _ _ _ c.in_ok-object.ensures (name-fails _ _ c.in_err-name.ensures) (err-unread _ c.from_residual-in_err-name.ensures.0)
 
-pub slice_bounds-is_name-start : goal.slice_bounds-is_name-start
-unfolding own_then
-slice_bounds-is_name-start c = search links
+pub from_rights-requires : goal.from_rights-requires
+from_rights-requires c = took-at _ _ allowance c.args.at _ c.in_ok-object.ensures c.requires
 
-pub slice_bounds-is_name-end : goal.slice_bounds-is_name-end
+pub returns : goal.returns
 unfolding own_then
-slice_bounds-is_name-end c = search links
-
-pub slice_bounds-of-count : goal.slice_bounds-of-count
-unfolding own_then
-slice_bounds-of-count c = search links
-
-pub slice_bounds-of-start : goal.slice_bounds-of-start
-unfolding own_then
-slice_bounds-of-start c = search links
-
-pub slice_bounds-of-end : goal.slice_bounds-of-end
-unfolding own_then
-slice_bounds-of-end c = search links
-
-pub slice_bounds-from_rights-count : goal.slice_bounds-from_rights-count
-unfolding own_then
-slice_bounds-from_rights-count c = search links
-
-pub slice_bounds-from_rights-start : goal.slice_bounds-from_rights-start
-unfolding own_then
-slice_bounds-from_rights-start c = search links
-
-pub returns-then-is_name : goal.returns-then-is_name
-unfolding own_then
-returns-then-is_name c = search links
-
-pub returns-else-is_name : goal.returns-else-is_name
-unfolding own_then
-returns-else-is_name c = search links
+returns c =
+    let k = c.in_ok-object.ensures in
+    let n = name-holds _ _ c.in_ok-name.ensures in
+    c.from_rights.ensures ∙ rw (k.stop, n.1) (flat-on 0x5F20 c.args.at is_name (λ c' e. rights_then c.args.at.stop c.args.body.issuer c.args.body.key (name_of c')) _ k n.0)

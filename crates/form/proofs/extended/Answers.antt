@@ -2,14 +2,14 @@
 use Rattle.form.proofs.Forms.{forms}
 use Rattle.form.proofs.extended.Goals as goal
 
-pub returns-then-s-lt2 : goal.returns-then-s-lt2
-returns-then-s-lt2 c = search forms
+pub returns-in_default : goal.returns-in_default
+returns-in_default c = search forms
 
-pub returns-then-s-eq2 : goal.returns-then-s-eq2
-returns-then-s-eq2 c = search forms
+pub returns-in_default-empty : goal.returns-in_default-empty
+returns-in_default-empty c = search forms
 
-pub returns-then-n-eq0 : goal.returns-then-n-eq0
-returns-then-n-eq0 c = search forms
+pub returns-in-0-default : goal.returns-in-0-default
+returns-in-0-default c = search forms
 
-pub returns : goal.returns
-returns c = search forms
+pub returns-in_default-2 : goal.returns-in_default-2
+returns-in_default-2 c = search forms

@@ -2,20 +2,11 @@
 use Rattle.form.proofs.Forms.{forms}
 use Rattle.form.proofs.form_of.Goals as goal
 
-pub returns-then-s-gt-COMMAND : goal.returns-then-s-gt-COMMAND
-returns-then-s-gt-COMMAND c = search forms
+pub returns-in-len4-up : goal.returns-in-len4-up
+returns-in-len4-up c = search forms
 
-pub returns-then-s-lt4 : goal.returns-then-s-lt4
-returns-then-s-lt4 c = search forms
+pub returns-in_default : goal.returns-in_default
+returns-in_default c = search forms
 
-pub returns-then-s-eq4 : goal.returns-then-s-eq4
-returns-then-s-eq4 c = search forms
-
-pub returns-then-s-eq5 : goal.returns-then-s-eq5
-returns-then-s-eq5 c = search forms
-
-pub returns-then-fifth-eq0 : goal.returns-then-fifth-eq0
-returns-then-fifth-eq0 c = search forms
-
-pub returns : goal.returns
-returns c = search forms
+pub returns-in_default-2 : goal.returns-in_default-2
+returns-in_default-2 c = search forms

@@ -1,10 +1,11 @@
--- `headers::put_header` meets its contract.
-use Rattle.buffers.proofs.Laying.{unplaced}
-use Rattle.headers.proofs.Pieces.{header-put}
+-- `headers::put_header` meets its contract: the tag, then the length, or nothing.
+use Rattle.buffers.proofs.Sheets.{laid-asked, laid-no-room}
+use Rattle.headers.specs.Encode.{header}
 use Rattle.headers.proofs.put_header.Goals as goal
 
 pub returns-then-has_room : goal.returns-then-has_room
-returns-then-has_room c = search header-put depth 8
+unfolding header
+returns-then-has_room c = search laid-asked
 
-pub returns : goal.returns
-returns c = search unplaced depth 6
+pub returns-else-has_room : goal.returns-else-has_room
+returns-else-has_room c = search laid-no-room

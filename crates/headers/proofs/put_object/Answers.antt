@@ -1,12 +1,15 @@
--- `headers::put_object` meets its contract.
-use Rattle.headers.proofs.Pieces.{object-too-long, object-put, object-no-room}
+-- `headers::put_object` meets its contract: the header, then the content, or nothing.
+use Rattle.std.proofs.Common.{arith}
+use borrow.Author.Rules.{rules}
+use Rattle.headers.proofs.Pieces.{object-too-long, object-laid, object-no-room}
 use Rattle.headers.proofs.put_object.Goals as goal
 
-pub returns-then-src-gt-LONGEST : goal.returns-then-src-gt-LONGEST
-returns-then-src-gt-LONGEST c = search object-too-long
+pub returns-in_default : goal.returns-in_default
+returns-in_default c = object-too-long _ _ _ (omega (arith, c.in_default.ensures))
 
 pub returns-then-has_room : goal.returns-then-has_room
-returns-then-has_room c = search object-put depth 8
+returns-then-has_room c =
+    object-laid _ _ _ _ _ _ (search rules) (omega arith) c.object_size.ensures c.has_room.ensures _ _ c.put_header.ensures c.put.ensures c.if-has_room.true
 
-pub returns : goal.returns
-returns c = search object-no-room depth 8
+pub returns-else-has_room : goal.returns-else-has_room
+returns-else-has_room c = object-no-room _ _ _ _ _ _ (search rules) (omega arith) c.object_size.ensures c.has_room.ensures c.if-has_room.false

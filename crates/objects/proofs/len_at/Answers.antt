@@ -1,40 +1,40 @@
--- `objects::len_at` meets its contract: at each return the bytes that were there and the tests that led there say which case of `len_of` holds.
+-- The bytes that were there and the tests that led to each return say which case of `len_of` holds.
 use borrow.Author.Rules.{rules}
 use Rattle.objects.specs.Objects.{len_of, length_after_81, length_after_82}
 use Rattle.objects.proofs.len_at.Goals as goal
 
-pub returns-then-s-eq0 : goal.returns-then-s-eq0
-unfolding length_after_82 len_of length_after_81
-returns-then-s-eq0 c = search rules
+pub returns-then-len-lt256 : goal.returns-then-len-lt256
+unfolding len_of length_after_81 length_after_82
+returns-then-len-lt256 c = search rules
 
-pub returns-then-a-lt128 : goal.returns-then-a-lt128
-unfolding length_after_82 len_of length_after_81
-returns-then-a-lt128 c = search rules
+pub returns-else-len-lt256 : goal.returns-else-len-lt256
+unfolding len_of length_after_81 length_after_82
+returns-else-len-lt256 c = search rules
 
-pub returns-then-s-lt2 : goal.returns-then-s-lt2
-unfolding length_after_82 len_of length_after_81
-returns-then-s-lt2 c = search rules
+pub returns-in-129 : goal.returns-in-129
+unfolding len_of length_after_81 length_after_82
+returns-in-129 c = search rules
 
-pub returns-then-b-lt128 : goal.returns-then-b-lt128
-unfolding length_after_82 len_of length_after_81
-returns-then-b-lt128 c = search rules
+pub returns-in-0-to-127 : goal.returns-in-0-to-127
+unfolding len_of length_after_81 length_after_82
+returns-in-0-to-127 c = search rules
 
-pub returns-then-a-eq129 : goal.returns-then-a-eq129
-unfolding length_after_82 len_of length_after_81
-returns-then-a-eq129 c = search rules
+pub returns-in_default : goal.returns-in_default
+unfolding len_of length_after_81 length_after_82
+returns-in_default c = search rules
 
-pub returns-then-s-lt3 : goal.returns-then-s-lt3
-unfolding length_after_82 len_of length_after_81
-returns-then-s-lt3 c = search rules
+pub returns-in_default-2 : goal.returns-in_default-2
+unfolding len_of length_after_81 length_after_82
+returns-in_default-2 c = search rules
 
-pub returns-then-n-lt256 : goal.returns-then-n-lt256
-unfolding length_after_82 len_of length_after_81
-returns-then-n-lt256 c = search rules
+pub returns-in_default-3 : goal.returns-in_default-3
+unfolding len_of length_after_81 length_after_82
+returns-in_default-3 c = search rules
 
-pub returns-then-a-eq130 : goal.returns-then-a-eq130
-unfolding length_after_82 len_of length_after_81
-returns-then-a-eq130 c = search rules
+pub returns-in_default-4 : goal.returns-in_default-4
+unfolding len_of length_after_81 length_after_82
+returns-in_default-4 c = search rules
 
-pub returns : goal.returns
-unfolding length_after_82 len_of length_after_81
-returns c = search rules
+pub returns-in_default-5 : goal.returns-in_default-5
+unfolding len_of length_after_81 length_after_82
+returns-in_default-5 c = search rules

@@ -1,28 +1,24 @@
--- `objects::tag_at` meets its contract: at each return the bytes that were there and the tests that led there say which case of `tag_of` holds.
+-- The bytes that were there and the tests that led to each return say which case of `tag_of` holds.
 use borrow.Author.Rules.{rules}
 use Rattle.objects.specs.Objects.{tag_of, second_tag_byte}
 use Rattle.objects.proofs.tag_at.Goals as goal
 
-pub returns-then-s-eq0 : goal.returns-then-s-eq0
+pub returns-in_default : goal.returns-in_default
 unfolding tag_of second_tag_byte
-returns-then-s-eq0 c = search rules
+returns-in_default c = search rules
 
-pub returns-then-s-eq1 : goal.returns-then-s-eq1
+pub returns-then-a-ne31 : goal.returns-then-a-ne31
 unfolding tag_of second_tag_byte
-returns-then-s-eq1 c = search rules
+returns-then-a-ne31 c = search rules
 
-pub returns-then-b-lt31 : goal.returns-then-b-lt31
+pub returns-in_default-more : goal.returns-in_default-more
 unfolding tag_of second_tag_byte
-returns-then-b-lt31 c = search rules
+returns-in_default-more c = search rules
 
-pub returns-then-b-gt127 : goal.returns-then-b-gt127
+pub returns-then-not-contains : goal.returns-then-not-contains
 unfolding tag_of second_tag_byte
-returns-then-b-gt127 c = search rules
+returns-then-not-contains c = search rules
 
-pub returns-else-b-gt127 : goal.returns-else-b-gt127
+pub returns : goal.returns
 unfolding tag_of second_tag_byte
-returns-else-b-gt127 c = search rules
-
-pub returns-else-a-eq31 : goal.returns-else-a-eq31
-unfolding tag_of second_tag_byte
-returns-else-a-eq31 c = search rules
+returns c = search rules

@@ -1,9 +1,8 @@
 -- `taking::holds` meets its contract.
-use Rattle.taking.proofs.Taken.{takes}
+use Rattle.std.proofs.Common.{rules}
+use Rattle.taking.specs.Taking.{holds}
 use Rattle.taking.proofs.holds.Goals as goal
 
-pub returns-in_default : goal.returns-in_default
-returns-in_default c = search takes
-
 pub returns : goal.returns
-returns c = search takes
+unfolding holds
+returns c = search rules

@@ -1,13 +1,10 @@
--- The place where a byte stands, the place after one that is another, and the end.
-use Rattle.std.proofs.Common.{arith, sym, ◌∙◌}
-use Rattle.text.proofs.Finding.{find-end, find_at, find-on}
+-- The place is as many bytes on as stand before the byte, and within the string.
+use Rattle.std.proofs.Common.{arith}
+use Rattle.text.proofs.Finding.{found, place_in}
 use Rattle.text.proofs.find.Goals as goal
 
-pub returns-then-s-i : goal.returns-then-s-i
-returns-then-s-i c = sym (c.loop-i.invariant ∙ find_at _ _ _ (omega arith) c.if-s-i.true)
-
-pub loop-i-preserved : goal.loop-i-preserved
-loop-i-preserved c = c.loop-i.invariant ∙ find-on _ _ _ (omega arith) c.if-s-i.false
+pub overflow_add-result : goal.overflow_add-result
+overflow_add-result c = let e = found _ c.args.from c.args.b _ _ c.min-start.ensures c.before-2.ensures in omega (arith, place_in _ _ _ _ e)
 
 pub returns : goal.returns
-returns c = sym (c.loop-i.invariant ∙ find-end _ _ _ (omega arith))
+returns c = found _ _ _ _ _ c.min-start.ensures c.before-2.ensures

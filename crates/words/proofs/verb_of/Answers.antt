@@ -1,15 +1,16 @@
--- `words::verb_of` meets its contract.
+-- Too long, empty, a comment, or by its first word.
+use Rattle.std.proofs.Common.{arith, rules}
 use Rattle.words.proofs.Words.{verb-long, verb-empty, verb-comment, verb-named}
 use Rattle.words.proofs.verb_of.Goals as goal
 
 pub returns-then-line-gt-LINE : goal.returns-then-line-gt-LINE
-returns-then-line-gt-LINE c = search verb-long
+returns-then-line-gt-LINE c = verb-long _ _ c.if-line-gt-LINE.true
 
-pub returns-then-line-eq0 : goal.returns-then-line-eq0
-returns-then-line-eq0 c = search verb-empty
+pub returns-in-empty : goal.returns-in-empty
+returns-in-empty c = verb-empty _ _ c.if-line-gt-LINE.false (omega arith)
 
-pub returns-then-line-eq35 : goal.returns-then-line-eq35
-returns-then-line-eq35 c = search verb-comment
+pub returns-in-35 : goal.returns-in-35
+returns-in-35 c = verb-comment _ _ c.if-line-gt-LINE.false (λ e. omega arith) (search rules)
 
-pub returns : goal.returns
-returns c = search verb-named
+pub returns-in_default : goal.returns-in_default
+returns-in_default c = verb-named _ _ c.if-line-gt-LINE.false (λ e. omega arith) _ _ (search rules) c.word.ensures c.named.ensures

@@ -1,15 +1,8 @@
 -- Before each turn what is left to write, written over what stands there, is the whole.
-use Rattle.std.proofs.Common.{◌≡◌, ◌-◌, ◌*◌, ◌/◌, ◌≤◌, length, drop}
+use Rattle.std.proofs.Common.{◌≡◌, ◌*◌, length, drop}
 use Rattle.buffers.specs.Lay.{over}
 use Rattle.digits.specs.Hex.{bytes_of}
 use Rattle.digits.proofs.hex.lay_bytes.Given as goal
 
 abbrev pub invariant-loop-i : goal.invariant-loop-i
-invariant-loop-i l =
-    (l.i ≤ l.n)
-    × (l.n ≡ length l.s / 2)
-    × (length l.out ≡ length l.fn.out)
-    × (over 0 (bytes_of l.s) l.fn.out ≡ over l.i (bytes_of (drop (2 * l.i) l.s)) l.out)
-
-abbrev pub decreases-loop-i : goal.decreases-loop-i
-decreases-loop-i l = l.n - l.i
+invariant-loop-i l = (length l.out ≡ length l.fn.out) × (over 0 (bytes_of l.s) l.fn.out ≡ over l.i (bytes_of (drop (2 * l.i) l.s)) l.out)

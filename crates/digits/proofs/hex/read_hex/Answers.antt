@@ -1,27 +1,15 @@
--- The tests are those of the definition, and what is read is laid from the start.
-use Rattle.std.proofs.Common.{not, ap}
-use Rattle.digits.proofs.Pairs.{word-bad, bad-left, word-large, large-left, word_read, word-laid}
+-- A word that is not hex is not read, nor one that is too long; of any other all bytes are laid.
+use Rattle.std.proofs.Common.{sym, ◌∙◌}
+use Rattle.digits.proofs.Pairs.{word-bad, word-large, word_read}
 use Rattle.digits.proofs.hex.read_hex.Goals as goal
+use Rattle.digits.proofs.hex.read_hex.Goals.{then-not-is_hex-via-then-not-is_hex, then-not-is_hex-via-else-not-is_hex+then-out-n}
 
-pub returns-then-not-good : goal.returns-then-not-good
-returns-then-not-good c =
-    let d = c.same-dash.ensures in
-    let g = c.all_digits-digits.ensures in
-    let h = ap not c.if-not-good.true in
-    (word-bad _ _ _ _ d g h, bad-left _ _ _ _ d g h)
-
-pub returns-then-out-n : goal.returns-then-out-n
-returns-then-out-n c =
-    let d = c.same-dash.ensures in
-    let g = c.all_digits-digits.ensures in
-    let h = ap not c.if-not-good.false in
-    (word-large _ _ _ _ d g h c.if-out-n.true, large-left _ _ _ _ d g h c.if-out-n.true)
+pub returns-then-not-is_hex : goal.returns-then-not-is_hex
+returns-then-not-is_hex c =
+    elim c.then-not-is_hex.branch [
+      | then-not-is_hex-via-then-not-is_hex w ↦ word-bad _ _ (sym c.is_hex.ensures ∙ w.if-not-is_hex.true)
+      | then-not-is_hex-via-else-not-is_hex+then-out-n w ↦ word-large _ _ w.if-out-n.true
+    ]
 
 pub returns : goal.returns
-returns c =
-    let d = c.same-dash.ensures in
-    let g = c.all_digits-digits.ensures in
-    let h = ap not c.if-not-good.false in (
-      word_read _ _ _ _ d g h c.if-out-n.false,
-      word-laid _ _ _ _ d g h c.if-out-n.false _ c.lay_bytes.ensures,
-    )
+returns c = word_read _ _ (sym c.is_hex.ensures ∙ c.if-not-is_hex.false) c.if-out-n.false _ c.lay_bytes.ensures

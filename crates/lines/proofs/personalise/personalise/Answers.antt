@@ -1,13 +1,13 @@
 -- `lines::personalise::personalise` meets its contract.
+use Rattle.desk_token.specs.Moves.{unmade}
 use Rattle.desk_token.proofs.Moving.{made_as}
-use Rattle.lines.proofs.Turning.{unmade-there}
 use Rattle.lines.proofs.personalise.personalise.Goals as goal
 
-pub returns-then-not-x : goal.returns-then-not-x
-returns-then-not-x c = search unmade-there
+pub returns-in_default : goal.returns-in_default
+returns-in_default c = search unmade
 
-pub returns-then-x : goal.returns-then-x
-returns-then-x c = search made_as depth 6
+pub returns-in-Some-previous : goal.returns-in-Some-previous
+returns-in-Some-previous c = search made_as depth 6
 
-pub returns : goal.returns
-returns c = search made_as depth 6
+pub returns-in-None : goal.returns-in-None
+returns-in-None c = search made_as depth 6

@@ -1,6 +1,6 @@
 -- `lines::send::send` meets its contract.
-use Rattle.lines.proofs.Turning.{unstepped-there}
+use Rattle.desk_token.specs.Moves.{unstepped}
 use Rattle.lines.proofs.send.send.Goals as goal
 
-pub returns-then-not-x : goal.returns-then-not-x
-returns-then-not-x c = search unstepped-there
+pub returns-in_default : goal.returns-in_default
+returns-in_default c = search unstepped

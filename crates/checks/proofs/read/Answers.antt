@@ -1,6 +1,0 @@
--- `checks::read` meets its contract.
-use Rattle.checks.proofs.Checks.{checks}
-use Rattle.checks.proofs.read.Goals as goal
-
-pub returns : goal.returns
-returns c = search checks depth 8

@@ -1,6 +1,0 @@
--- `checks::set_active` meets its contract.
-use Rattle.checks.proofs.Checks.{checks}
-use Rattle.checks.proofs.set_active.Goals as goal
-
-pub returns : goal.returns
-returns c = search checks depth 8

@@ -1,6 +1,0 @@
--- `session_limits::context_fits` meets its contract.
-use Rattle.session_limits.proofs.Parts.{parts}
-use Rattle.session_limits.proofs.context_fits.Goals as goal
-
-pub returns : goal.returns
-returns c = search parts depth 8

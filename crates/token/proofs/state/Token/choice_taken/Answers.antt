@@ -1,6 +1,0 @@
--- `token::state::Token::choice_taken` meets its contract.
-use Rattle.token.proofs.Changes.{changes}
-use Rattle.token.proofs.state.Token.choice_taken.Goals as goal
-
-pub returns : goal.returns
-returns c = search changes depth 8
