@@ -17,7 +17,7 @@ pub struct Desk {
     pub token: Option<Token>,
 }
 
-// The desk after a turn, and the length of its answer; 0 where nothing is answered.
+// The desk after a turn, and the length of its answer in the buffer that was lent, as `Outcome` has it; 0 where nothing is answered.
 #[derive(Clone, Copy)]
 pub struct Turn {
     pub desk: Desk,

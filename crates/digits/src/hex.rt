@@ -29,7 +29,7 @@ fn all_digits(s: &[u8]) -> bool
     s.iter().all(|c| is_digit(*c, 16))
 }
 
-// A byte for two digits: the buffer has room for them.
+// A byte for two digits: the buffer has room for them. Chunks of two would be slices, to be indexed all the same.
 fn lay_bytes(out: &mut [u8], s: &[u8])
     requires { length s.now / 2 ≤ length out.old }
     ensures { out.new ≡ over 0 (bytes_of s.now) out.old }

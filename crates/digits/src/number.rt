@@ -49,7 +49,7 @@ pub(crate) fn is_digit(c: u8, base: u64) -> bool
     c.is_ascii_hexdigit() && (worth(c) as u64) < base
 }
 
-// The last so many digits of n, from the last one back.
+// The last so many digits of n; each place is indexed, since they are written from the last one back.
 pub fn put_digits(sheet: &mut Sheet, n: u64, radix: Radix, width: usize)
     ensures { Laid (digits (base_of radix) width n) sheet.old sheet.new }
 {

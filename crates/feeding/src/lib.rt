@@ -15,7 +15,7 @@ pub struct Feed {
     pub end: usize,
     // How much of a line is kept that is not whole yet.
     pub kept: usize,
-    // The turns that are left, none once the input has ended.
+    // The turns that are left, none once the input has ended: a program's loop counts them down, which is how it ends.
     pub turns: u64,
 }
 

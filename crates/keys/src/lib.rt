@@ -6,13 +6,16 @@ ghost use Rattle.keys.specs.Keys.{no_key, key_of, key_bytes, key_is, key_fits, k
 
 use strings::Kept;
 
+// The places of a key.
+const PLACES: usize = 66;
+
 // A key's bytes; what stands after them is never judged. No key where the length is 0: no Option, since a stored state is judged by
 // `key_stands` and `key_fits`, which speak of the length.
 #[derive(Clone, Copy)]
-pub struct Key(pub Kept<66>);
+pub struct Key(pub Kept<PLACES>);
 
 impl Key {
-    pub const MOST: usize = 66;
+    pub const MOST: usize = PLACES;
 
     #[tactic(auto, unfolding(crate::specs::Keys::no_key))]
     pub fn none() -> Self

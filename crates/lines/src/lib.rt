@@ -61,6 +61,7 @@ fn carried(desk: Desk, verb: Verb, line: &[u8], out: &mut Sheet) -> Desk
         Act::Sends => send::send(desk, line, out),
         Act::Resets => reset(desk, line, out),
         Act::Tells => {
+            // what is told is on the sheet; of what is not, `finished` says what was expected
             let _ = told(desk.token, verb, line, out);
             desk
         }

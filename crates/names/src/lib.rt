@@ -2,14 +2,16 @@
 #![tactic(auto)]
 
 ghost use Rattle.std.specs.Prelude.{◌≡◌, length};
-ghost use Rattle.strings.specs.Bytes.{eqbs};
 ghost use Rattle.names.specs.Names.{is_name, name_of, no_name, name_bytes, name_fits, same_name};
 
 use strings::{Class, Kept, all};
 
-// A name's bytes; what stands after them is never judged.
+// The places of a name.
+const PLACES: usize = 16;
+
+// A name's bytes; what stands after them is never judged. A type of its own, so that no key passes for a name.
 #[derive(Clone, Copy)]
-pub struct Name(pub Kept<16>);
+pub struct Name(pub Kept<PLACES>);
 
 // The names that a reply shows: the first, and the second where there are both. Whose they are, `trust` says.
 #[derive(Clone, Copy)]
@@ -31,21 +33,8 @@ pub fn is_name(s: &[u8]) -> bool
         && all(Class::Serial, &s[n - 5..])
 }
 
-// Whether two strings of eight bytes are the same.
-fn eight_alike(p: &[u8], q: &[u8]) -> bool
-    requires { (length p.now ≡ 8) × (length q.now ≡ 8) }
-    ensures { result ≡ eqbs p.now q.now }
-{
-    let mut equal = true;
-    // not `==`, and it does not stop where two differ: without a branch the eight become one comparison
-    for i in 0..8 {
-        equal &= p[i] == q[i];
-    }
-    equal
-}
-
 impl Name {
-    pub const MOST: usize = 16;
+    pub const MOST: usize = PLACES;
 
     #[tactic(auto, unfolding(crate::specs::Names::no_name))]
     pub fn none() -> Self
@@ -71,21 +60,11 @@ impl Name {
 
     // Whether two names are the same: the same bytes, and as many. It is not derived, since what stands after a stored length is not
     // judged.
+    #[tactic(auto, unfolding(crate::specs::Names::same_name))]
     pub fn same(self, other: Name) -> bool
         ensures { result ≡ same_name self other }
     {
-        let p = self.bytes();
-        let q = other.bytes();
-        let n = p.len();
-        if n != q.len() {
-            return false;
-        }
-        // no name is so short, but a stored value may be
-        if n < 8 {
-            return p == q;
-        }
-        // the first eight bytes and the last eight: of at most sixteen none lies between
-        eight_alike(&p[..8], &q[..8]) & eight_alike(&p[n - 8..], &q[n - 8..])
+        self.bytes() == other.bytes()
     }
 
     // Whether a stored name is one.

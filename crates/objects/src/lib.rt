@@ -19,7 +19,8 @@ pub struct Extent {
     pub size: usize,
 }
 
-// The header of an object whose content is all there, from start up to end.
+// The header of an object whose content is all there, from start up to end (two places, as the definitions have them; a Range is no
+// `Copy`).
 #[derive(Clone, Copy, PartialEq, Eq)]
 pub struct Header {
     pub tag: u16,
@@ -134,7 +135,8 @@ fn read_object(s: &[u8], below: usize, left: usize) -> Option<Object>
     Some(Object { end, count: n + 1 })
 }
 
-// The objects of a list, with so many levels of nests below it, at the cost of at most left objects.
+// The objects of a list, with so many levels of nests below it, at the cost of at most left objects. It calls itself on what is left, as
+// its definition does.
 #[cycle(read_list_read_object)]
 pub fn read_list(s: &[u8], below: usize, left: usize) -> Option<usize>
     ensures { result ≡ within left (objects below s.now) }

@@ -71,7 +71,7 @@ fn put_data(sheet: &mut Sheet, layout: Layout, first: &[u8], listed: Listed)
     }
 }
 
-// Writes the reply from the buffer's start, and answers its length.
+// Writes the reply from the buffer's start, and answers its length. The word comes as its number, which `reply_of` spells.
 pub fn reply(out: &mut [u8], layout: Layout, word: u16, first: &[u8], listed: Listed) -> usize
     ensures { Written (reply_of (length out.old) layout word first.now listed) out.old out.new result }
 {

@@ -11,7 +11,7 @@ fn before(s: &[u8], b: u8) -> usize
     s.iter().position(|c| *c == b).unwrap_or(s.len())
 }
 
-// The place of the first b from a place on, or the end.
+// The place of the first b from a place on, or the end: no Option, since what comes before b ends there all the same.
 pub fn find(s: &[u8], from: usize, b: u8) -> usize
     ensures { result ≡ place_of s.now from b }
 {

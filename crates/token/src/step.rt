@@ -6,7 +6,7 @@ use super::state::Token;
 use plans::Note;
 use verdicts::Answered;
 
-// What a step hands back: the token, and the reply's length, as a host in C takes them.
+// What a step hands back: the token, and the reply's length in the buffer that was lent.
 #[derive(Clone, Copy)]
 pub struct Outcome {
     pub token: Token,
@@ -14,7 +14,7 @@ pub struct Outcome {
 }
 
 impl Token {
-    // A host in C calls it: each string with its length, the buffer that it lends, nothing in a struct of its own.
+    // docs/HOST.md names what it takes, one by one; the entries in C will stand on that.
     pub fn step(
         mut self,
         s: &[u8],

@@ -95,6 +95,7 @@ impl Verb {
     }
 }
 
+// As `about`: guards, not patterns.
 fn named(w: &[u8], held: bool) -> Verb
     ensures { result ≡ named_by w.now held }
 {
