@@ -37,6 +37,9 @@ pub three-short : (t u v : ℕ) (a b c : List ℕ) → length a + length b + len
 three-short t u v a b c h =
     omega (arith, ap length (append-nil (object v c)), length-append (object u b) (object v c ++ []), length-append (object t a) (object u b ++ (object v c ++ [])), object-most t a, object-most u b, object-most v c)
 
+pub under-room : (s : List ℕ) → length s ≤ 251 → length s ≤ room
+under-room s h = omega arith
+
 pub nest-fits : (s : List ℕ) (x : Sheet) → (x.at ≡ 0) × (room ≤ length x.out.now) → length s ≤ 251 → x.at + length (object 0x7C s) ≤ length x.out.now
 nest-fits s x h l = omega (arith, object-most 0x7C s, h.0, h.1)
 

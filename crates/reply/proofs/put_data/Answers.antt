@@ -1,7 +1,9 @@
 -- `put_data` meets its contract: what 7C holds has room, and each layout's data is the definition's.
-use Rattle.std.proofs.Common.{arith}
+use Rattle.std.proofs.Common.{arith, ◌+◌, ◌*◌, ◌≤◌, length}
+use Rattle.strings.specs.Bytes.{longest}
+use Rattle.names.specs.Names.{places}
 use borrow.Author.Rules.{rules}
-use Rattle.reply.proofs.Data.{one-short, two-short, three-short, name-short, nest-fits, no-data, flat-data, nest-data, one-is, name-is, names-are, pair-is}
+use Rattle.reply.proofs.Data.{one-short, two-short, three-short, under-room, name-short, nest-fits, no-data, flat-data, nest-data, one-is, name-is, names-are, pair-is}
 use Rattle.reply.proofs.put_data.Goals as goal
 
 pub put_nest-requires : goal.put_nest-requires
@@ -16,8 +18,8 @@ pub put_nest-requires-in-Some : goal.put_nest-requires-in-Some
 put_nest-requires-in-Some c =
     let n = name-short c.args.listed.first _ c.bytes.ensures (search rules) in
     let m = name-short c.in-Some.name _ c.bytes-in-Some.ensures (search rules) in
-    let s = three-short 0x86 0x87 0x88 c.args.first.now c.bytes.result.now c.bytes-in-Some.result.now (omega arith) in
-    record { short = omega arith; fits = nest-fits _ c.args.sheet.now c.requires.start s }
+    let k : length c.args.first.now + length c.bytes.result.now + length c.bytes-in-Some.result.now ≤ longest + 2 * places = omega arith in
+    record { short = under-room _ (three-short _ _ _ _ _ _ k); fits = nest-fits _ c.args.sheet.now c.requires.start (three-short _ _ _ _ _ _ k) }
 
 pub put_nest-requires-in-Pair : goal.put_nest-requires-in-Pair
 put_nest-requires-in-Pair c =
