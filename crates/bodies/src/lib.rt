@@ -111,6 +111,7 @@ struct Taken<'a> {
 
 impl<'a> Cursor<'a> {
     // The object with this tag that stands here.
+    #[inline]
     fn take(self, tag: u16, nests: bool) -> Result<Taken<'a>, Unfit>
         requires { At 1024 self }
         ensures { TookBy tag nests self.entry result }

@@ -20,6 +20,7 @@ impl<'a> Sheet<'a> {
     }
 
     // Whether so many bytes have room.
+    #[inline]
     pub fn has_room(&self, n: usize) -> bool
         ensures { result ≡ leb (self.now.at + n) (length self.now.out.now) }
     {
@@ -27,6 +28,7 @@ impl<'a> Sheet<'a> {
     }
 
     // Bytes as they are, and the place after them.
+    #[inline]
     pub fn put(&mut self, s: &[u8])
         ensures { Laid s.now self.old self.new }
     {

@@ -25,20 +25,21 @@ abbrev ShapeIn : ℕ → Shape → Type 0
 ShapeIn n (Err f) = Unit {0}
 ShapeIn n (Ok c) = (c.start ≤ c.end) × (c.end ≤ n)
 
+headed-in : (n cla ins p1 p2 a e : ℕ) (le : Option ℕ) → a ≤ e → e ≤ n → ShapeIn n (headed_of cla ins p1 p2 a e le)
+unfolding headed_of
+headed-in n cla ins p1 p2 a e le p q = of-both (ShapeIn n) (not (class_fits cla ins)) tt (looked (kind_of ins p1 p2))
+  where
+    looked : (x : Result Kind Fault) → ShapeIn n (looked_up x cla a e le)
+    looked (Err f) = tt
+    looked (Ok k) = of-both (ShapeIn n) (present (wants_of k) (ltb a e) le) (p, q) tt
+
 shape-in : (s : List ℕ) → ShapeIn (length s) (shape_of s)
-unfolding shape_of headed_of
+unfolding shape_of
 shape-in s = go (form_of s) (form_in s)
   where
-    looked : (cla a e : ℕ) (le : Option ℕ) → a ≤ e → e ≤ length s → (x : Result Kind Fault) → ShapeIn (length s) (looked_up x cla a e le)
-    looked cla a e le p q (Err f) = tt
-    looked cla a e le p q (Ok k) = of-both (ShapeIn (length s)) (present (wants_of k) (ltb a e) le) (p, q) tt
-
     go : (f : Option Form) → FormIn (length s) f → ShapeIn (length s) (formed f s)
     go None h = tt
-    go (Some f) h =
-        let z = form-sizes h in
-        of-both (ShapeIn (length s)) (not (class_fits (get_or s 0 0) (get_or s 1 0))) tt
-        (looked (get_or s 0 0) f.start f.end f.le z.1 z.2 (kind_of (get_or s 1 0) (get_or s 2 0) (get_or s 3 0)))
+    go (Some f) h = let z = form-sizes h in headed-in (length s) (get_or s 0 0) (get_or s 1 0) (get_or s 2 0) (get_or s 3 0) f.start f.end f.le z.1 z.2
 
 -- as a caller of `shape_of` asks it
 module _ (s : List ℕ) (x : Shape) (c : Command) (h : x ≡ shape_of s) (g : x ≡ Ok c) where

@@ -1,20 +1,21 @@
 -- Bytes in hex, a pair of digits at a time. Assumes nothing.
 use Rattle.std.specs.Prelude.{Some, None}
 use Prim.Native.Nat.{ℕ, suc, ◌+◌, ◌*◌, ◌/◌, ◌%◌, ◌≤◌, ◌<◌}
-use mathlib.Core.Path.{◌≡◌, refl, sym, ap}
+use mathlib.Core.Path.{◌≡◌, refl, sym, ◌∙◌}
 use mathlib.Core.Bool.{Bool, true, false, ◌&&◌}
-use mathlib.Core.List.{List, [], ◌∷◌, ◌++◌}
+use mathlib.Core.List.{List, [], ◌∷◌, append-nil}
+use native.Mathlib.Nat.{zero-add}
 use native.Mathlib.Numerals.{add-one}
 use native.Mathlib.Omega.{arith}
 use lib.Dec.{leb}
-use lib.ListN.{length, take, drop, get_or, set, length-drop, length-take}
-use lib.Seq.{drop-cons, take-suc, take_all}
+use lib.ListN.{length, drop, get_or, set, length-drop, length-set, drop_of_length-le}
+use lib.Seq.{drop-cons}
 use borrow.Author.Tests.{eq-eqb, ne_eqb, lt-leb, le-leb}
 use Rattle.buffers.specs.declared.Sheet.{Sheet}
 use Rattle.buffers.specs.Lay.{over}
 use Rattle.buffers.specs.Laid.{Laid}
-use Rattle.buffers.proofs.Laying.{over_none, over-front}
-use Rattle.buffers.proofs.Sheets.{laid-as, laid-both, laid-no-room}
+use Rattle.buffers.proofs.Laying.{over_none, over_first, over-front}
+use Rattle.buffers.proofs.Sheets.{laid-no-room}
 use Rattle.digits.specs.Digits.{glyph, worth}
 use Rattle.digits.specs.Hex.{pairs, dash, hex_of, bytes_of, is_hex, hex_read, hex_laid}
 
@@ -22,18 +23,27 @@ pub pairs-long : (s : List ℕ) → 2 * length s ≡ length (pairs s)
 pairs-long [] = refl
 pairs-long (b ∷ s) = omega (arith, pairs-long s)
 
-pairs-append : (s t : List ℕ) → pairs (s ++ t) ≡ pairs s ++ pairs t
-pairs-append [] t = refl
-pairs-append (b ∷ s) t = ap (λ (l : List ℕ). glyph (b / 16) ∷ glyph (b % 16) ∷ l) (pairs-append s t)
-
 -- one byte more
-pub pairs-more : (i g h : ℕ) (s : List ℕ) (x y z : Sheet) → i < length s → x.at + 2 * length s ≤ length x.out.now → g ≡ glyph (get_or s i 0 / 16) → h ≡ glyph (get_or s i 0 % 16)
-    → Laid (pairs (take i s)) x y → Laid (g ∷ h ∷ []) y z → Laid (pairs (take (i + 1) s)) x z
-pairs-more i g h s x y z k l u v p q =
-    let e : pairs (take (i + 1) s) ≡ pairs (take i s) ++ (g ∷ h ∷ []) = rw (add-one i, take-suc s i 0 k, u, v) (pairs-append (take i s) (get_or s i 0 ∷ [])) in
-    let n = pairs-long (take (i + 1) s) in
-    let m = length-take (i + 1) s in
-    laid-as _ _ x z (sym e) (laid-both (pairs (take i s)) (g ∷ h ∷ []) x y z (omega (arith, ap length e)) p q)
+pub pairs-on : (at i g h : ℕ) (s o : List ℕ) → i < length s → at + 2 * i + 1 < length o → g ≡ glyph (get_or s i 0 / 16) → h ≡ glyph (get_or s i 0 % 16)
+    → over (at + 2 * i) (pairs (drop i s)) o ≡ over (at + 2 * (i + 1)) (pairs (drop (i + 1) s)) (set (set o (at + 2 * i) g) (at + 2 * i + 1) h)
+pairs-on at i g h s o l m e f =
+    let k : at + 2 * (i + 1) ≡ at + 2 * i + 1 + 1 = omega arith in
+    rw (k, add-one i, drop-cons s i 0 l, e, f)
+    (over-front (at + 2 * i) (glyph (get_or s i 0 / 16)) (glyph (get_or s i 0 % 16) ∷ pairs (drop (suc i) s)) o (omega arith)
+    ∙ over-front (at + 2 * i + 1) (glyph (get_or s i 0 % 16)) (pairs (drop (suc i) s)) (set o (at + 2 * i) (glyph (get_or s i 0 / 16))) (omega (arith, length-set o (at + 2 * i) (glyph (get_or s i 0 / 16)))))
+
+-- the same from the start of the buffer
+pub pairs-next : (i g h : ℕ) (s o : List ℕ) → i < length s → 2 * i + 1 < length o → g ≡ glyph (get_or s i 0 / 16) → h ≡ glyph (get_or s i 0 % 16)
+    → over (2 * i) (pairs (drop i s)) o ≡ over (2 * (i + 1)) (pairs (drop (i + 1) s)) (set (set o (2 * i) g) (2 * i + 1) h)
+pairs-next i g h s o l m e f = rw (zero-add (2 * i), zero-add (2 * (i + 1))) at (pairs-on 0 i g h s o l (omega arith) e f)
+
+-- past the last byte nothing is left, where the digits fill the buffer
+pub pairs-whole : (i : ℕ) (s o p : List ℕ) → length s ≤ i → length p ≡ 2 * length s → over 0 (pairs s) p ≡ over (2 * i) (pairs (drop i s)) o → o ≡ pairs s
+pairs-whole i s o p l m e =
+    let n = pairs-long s in
+    let d : drop (length (pairs s)) p ≡ [] = drop_of_length-le p {i = length (pairs s)} (omega arith) in
+    let g : over 0 (pairs s) p ≡ pairs s = over_first (pairs s) p ∙ rw d (append-nil (pairs s)) in
+    over_none (2 * i) o ∙ sym (rw (drop_of_length-le s {i = i} l) at e) ∙ g
 
 pub read-pair : (v w a b : ℕ) → v ≡ worth a → w ≡ worth b → v * 16 + w ≡ worth a * 16 + worth b
 read-pair v w a b e f = rw (e, f)
@@ -64,10 +74,6 @@ hex-some s h = rw (ne_eqb (length s) 0 h)
 pub hex-none : (s : List ℕ) → length s ≡ 0 → dash ≡ hex_of s
 unfolding hex_of
 hex-none s h = rw (eq-eqb (length s) 0 h)
-
--- the digits of all
-pub hex-put : (i : ℕ) (s : List ℕ) (x y : Sheet) → (length s ≡ 0 → ⊥) → length s ≤ i → Laid (pairs (take i s)) x y → Laid (hex_of s) x y
-hex-put i s x y h l p = rw (← hex-some s h) (rw (take_all i s l) at p)
 
 pub hex-no-room : (s : List ℕ) (x : Sheet) (b : Bool) → (length s ≡ 0 → ⊥) → b ≡ leb (x.at + 2 * length s) (length x.out.now) → b ≡ false → Laid (hex_of s) x x
 hex-no-room s x b h e f = rw (← hex-some s h) (laid-no-room (pairs s) x (2 * length s) b (pairs-long s) e f)

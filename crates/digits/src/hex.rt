@@ -2,12 +2,23 @@
 ghost use Rattle.std.specs.Prelude.{◌≡◌, ◌+◌, ◌*◌, ◌/◌, ◌≤◌, length};
 ghost use Rattle.buffers.specs.Lay.{over};
 ghost use Rattle.buffers.specs.Laid.{Laid};
-ghost use Rattle.digits.specs.Digits.{all_digits};
-ghost use Rattle.digits.specs.Hex.{hex_of, bytes_of, is_hex, hex_read, hex_laid};
+ghost use Rattle.digits.specs.Digits.{is_digit, all_digits};
+ghost use Rattle.digits.specs.Hex.{pairs, hex_of, bytes_of, is_hex, hex_read, hex_laid};
 
-use super::number::{glyph, is_digit, worth};
+use super::number::{glyph, worth};
 use buffers::Sheet;
 use strings::same;
+
+// Two digits for a byte: the buffer has just the room for them. A piece for each byte would ask for its room anew.
+fn lay_pairs(out: &mut [u8], s: &[u8])
+    requires { length out.old ≡ 2 * length s.now }
+    ensures { out.new ≡ pairs s.now }
+{
+    for i in 0..s.len() {
+        out[2 * i] = glyph(s[i] / 16);
+        out[2 * i + 1] = glyph(s[i] % 16);
+    }
+}
 
 // Bytes in upper-case hex, two digits a byte.
 pub fn put_hex(sheet: &mut Sheet, s: &[u8])
@@ -16,17 +27,25 @@ pub fn put_hex(sheet: &mut Sheet, s: &[u8])
     if s.is_empty() {
         sheet.put(b"-");
     } else if sheet.has_room(2 * s.len()) {
-        for b in s {
-            sheet.put(&[glyph(*b / 16), glyph(*b % 16)]);
-        }
+        let end = sheet.at + 2 * s.len();
+        lay_pairs(&mut sheet.out[sheet.at..end], s);
+        sheet.at = end;
     }
+}
+
+// Whether a character is a digit of base sixteen; what it is worth need not be asked.
+#[tactic(auto, using(crate::proofs::Digits::sixteen))]
+fn is_hex_digit(c: u8) -> bool
+    ensures { result ≡ is_digit 16 c }
+{
+    c.is_ascii_hexdigit()
 }
 
 // Whether a word is nothing but digits of base sixteen.
 fn all_digits(s: &[u8]) -> bool
     ensures { result ≡ all_digits 16 s.now }
 {
-    s.iter().all(|c| is_digit(*c, 16))
+    s.iter().all(|c| is_hex_digit(*c))
 }
 
 // A byte for two digits: the buffer has room for them. Chunks of two would be slices, to be indexed all the same.

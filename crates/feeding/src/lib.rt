@@ -64,10 +64,13 @@ impl Feed {
             return None;
         }
         self.turns = 0;
-        if self.kept == 0 {
+        let kept = self.kept;
+        // no line goes on after the last one
+        self.kept = 0;
+        if kept == 0 {
             return None;
         }
-        Some(front(line, self.kept))
+        Some(front(line, kept))
     }
 
     // What was read, up to a line feed, or all of it.

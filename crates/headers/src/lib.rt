@@ -13,6 +13,7 @@ const AFTER_81: u16 = 128;
 const AFTER_82: u16 = 256;
 
 #[tactic(auto, unfolding(crate::specs::Encode::tag_bytes))]
+#[inline(always)]
 fn tag_size(tag: u16) -> usize
     ensures { (result ≤ 2) × (result ≡ length (tag_bytes tag)) }
 {
@@ -21,6 +22,7 @@ fn tag_size(tag: u16) -> usize
 
 // It asks what `put_length` asks again: how long a header is has to be known before anything is written.
 #[tactic(auto, unfolding(crate::specs::Encode::length_bytes))]
+#[inline(always)]
 fn length_size(n: u16) -> usize
     ensures { (result ≤ 3) × (result ≡ length (length_bytes n)) }
 {
@@ -34,6 +36,7 @@ fn length_size(n: u16) -> usize
 }
 
 #[tactic(auto, unfolding(crate::specs::Encode::header))]
+#[inline(always)]
 fn header_size(tag: u16, n: u16) -> usize
     ensures { (result ≤ 5) × (result ≡ length (header tag n)) }
 {
@@ -41,6 +44,7 @@ fn header_size(tag: u16, n: u16) -> usize
 }
 
 // How long an object with n bytes of content is.
+#[inline(always)]
 pub fn object_size(tag: u16, n: u16) -> usize
     ensures { result ≡ size_of tag n }
 {
@@ -48,6 +52,7 @@ pub fn object_size(tag: u16, n: u16) -> usize
 }
 
 #[tactic(auto, unfolding(crate::specs::Encode::tag_bytes))]
+#[inline(always)]
 fn put_tag(sheet: &mut Sheet, tag: u16)
     ensures { Laid (tag_bytes tag) sheet.old sheet.new }
 {
@@ -59,6 +64,7 @@ fn put_tag(sheet: &mut Sheet, tag: u16)
 }
 
 #[tactic(auto, unfolding(crate::specs::Encode::length_bytes))]
+#[inline(always)]
 fn put_length(sheet: &mut Sheet, n: u16)
     ensures { Laid (length_bytes n) sheet.old sheet.new }
 {
@@ -74,6 +80,7 @@ fn put_length(sheet: &mut Sheet, n: u16)
 
 // The tag, and the length of a content of n bytes.
 #[tactic(auto, unfolding(crate::specs::Encode::header))]
+#[inline(always)]
 pub fn put_header(sheet: &mut Sheet, tag: u16, n: u16)
     ensures { Laid (header tag n) sheet.old sheet.new }
 {
@@ -84,6 +91,7 @@ pub fn put_header(sheet: &mut Sheet, tag: u16, n: u16)
 }
 
 // An object with this content, if a length says how long that is.
+#[inline(always)]
 pub fn put_object(sheet: &mut Sheet, tag: u16, src: &[u8])
     ensures { Laid (object_of tag src.now) sheet.old sheet.new }
 {

@@ -43,6 +43,7 @@ pub struct Content {
     pub end: usize,
 }
 
+#[inline]
 fn tag_at(s: &[u8]) -> Option<Label>
     ensures { result ≡ tag_of s.now }
 {
@@ -71,6 +72,7 @@ fn tag_at(s: &[u8]) -> Option<Label>
     })
 }
 
+#[inline]
 fn len_at(s: &[u8]) -> Option<Extent>
     ensures { result ≡ len_of s.now }
 {
@@ -94,6 +96,7 @@ fn len_at(s: &[u8]) -> Option<Extent>
     }
 }
 
+#[inline]
 fn header_at(s: &[u8]) -> Option<Header>
     ensures { result ≡ header_of s.now }
 {
@@ -162,6 +165,7 @@ pub fn read_objects(s: &[u8]) -> Option<usize>
 }
 
 // Where the content of the object at the start of s lies, if it has this tag, and nests objects or not. What is left of s starts at end.
+#[inline]
 pub fn find(s: &[u8], tag: u16, nests: bool) -> Option<Content>
     ensures { result ≡ found_in tag nests s.now }
 {

@@ -47,6 +47,7 @@ impl Layout {
 }
 
 // The data of a layout, at the start of a buffer with room for every reply: the word has room after it.
+#[inline]
 fn put_data(sheet: &mut Sheet, layout: Layout, first: &[u8], listed: Listed)
     requires start { (sheet.old.at ≡ 0) × (room ≤ length sheet.old.out.now) }
     requires short { length first.now ≤ longest }

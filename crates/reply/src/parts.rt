@@ -13,6 +13,7 @@ use headers::{object_size, put_header, put_object};
 pub(crate) struct Part<'a>(pub u16, pub &'a [u8]);
 
 // How long the objects are, one after the other.
+#[inline(always)]
 fn size_of(parts: &[Part]) -> u16
     requires { length (parts_bytes parts.now) ≤ room }
     ensures { result ≡ length (parts_bytes parts.now) }
@@ -25,6 +26,7 @@ fn size_of(parts: &[Part]) -> u16
 }
 
 // 7C holding these objects.
+#[inline(always)]
 pub(crate) fn put_nest(sheet: &mut Sheet, parts: &[Part])
     requires short { length (parts_bytes parts.now) ≤ room }
     requires fits { sheet.old.at + length (object 0x7C (parts_bytes parts.now)) ≤ length sheet.old.out.now }

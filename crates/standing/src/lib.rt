@@ -3,7 +3,7 @@
 
 ghost use Rattle.std.specs.Prelude.{◌≡◌, eqb};
 ghost use Rattle.run.specs.Run.{password_number};
-ghost use Rattle.standing.specs.Standing.{opener_number, has_dv, has_terminal, no_chain, no_run, unproven, from_announced};
+ghost use Rattle.standing.specs.Standing.{is_open, opener_number, has_dv, has_terminal, no_chain, no_run, unproven, from_announced};
 
 use certificate::Certificate;
 use rights::Rights;
@@ -35,6 +35,13 @@ pub enum Stage {
     Proven,
     ChipKeyChosen,
     Authenticated,
+}
+
+// A session is open when, and only when, a password opened it.
+pub fn is_open(opened: Option<Password>) -> bool
+    ensures { result ≡ is_open opened }
+{
+    opened.is_some()
 }
 
 // Whether this password opened the session.

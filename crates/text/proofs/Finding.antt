@@ -64,3 +64,12 @@ module _ (s : List ℕ) (from b r : ℕ) (e : r ≡ place_of s from b) where
   pub place-from : from ≤ length s → from ≤ r
   unfolding place_of
   place-from h = rw (e, le-leb from (length s) h) (omega arith)
+
+-- ---- a string taken a line at a time: from a place in it to the next b, then past that
+
+module _ (s : List ℕ) (i b e : ℕ) (h : i < length s) (f : e ≡ place_of s i b) where
+  pub line-from : i ≤ e
+  line-from = place-from s i b e f (omega arith)
+
+  pub past-less : (r : ℕ) → r ≡ min (e + 1) (length s) → length s - r < length s - i
+  past-less r g = omega (arith, line-from)

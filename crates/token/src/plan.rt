@@ -11,6 +11,7 @@ use fields::asked::{Ask, Asked};
 use fields::given::Given;
 use moment::moment;
 use plans::{Job, Note, Plan};
+use standing::is_open;
 
 impl Token {
     // The command's own checks, with what it brought.
@@ -86,7 +87,7 @@ impl Token {
         if !self.in_limits() {
             return Plan::settled(Event::Refused(Refusal::Outside));
         }
-        match note.guard(self.session.context.opened.is_some()) {
+        match note.guard(is_open(self.session.context.opened)) {
             Ok(()) => self.requested(fields::asked_of(s)),
             Err(loss) => Plan::settled(Event::Lost(loss)),
         }

@@ -53,7 +53,11 @@ pub fn word(line: &[u8], k: usize) -> &[u8]
 pub fn count(s: &[u8], b: u8) -> usize
     ensures { result ≡ occurrences b s.now }
 {
-    s.iter().filter(|c| **c == b).count()
+    let mut n = 0;
+    for c in s {
+        n += (*c == b) as usize;
+    }
+    n
 }
 
 // A line about the token. A pattern `b"reset"` tests byte by byte, and its ways out have no names that a proof could keep.

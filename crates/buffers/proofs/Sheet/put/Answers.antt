@@ -5,7 +5,7 @@ use Rattle.buffers.proofs.Sheets.{laid-copied, laid-no-room}
 use Rattle.buffers.proofs.Sheet.put.Goals as goal
 
 pub returns-then-has_room : goal.returns-then-has_room
-returns-then-has_room c = laid-copied _ _ _ _ _ _ refl c.has_room.ensures c.if-has_room.true (search rules) (omega arith) refl refl
+returns-then-has_room c = laid-copied _ _ _ _ _ _ refl c.has_room.ensures c.if-has_room.true (search rules) (omega arith) (omega arith) refl
 
 pub returns-else-has_room : goal.returns-else-has_room
 returns-else-has_room c = search (rules, laid-no-room) depth 6
